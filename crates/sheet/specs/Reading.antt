@@ -1,0 +1,92 @@
+-- What the reader's steps give: r is the reader before a step, q after it.
+use mathlib.Core.Path.{_≡_}
+use mathlib.Core.Logic.{_⊎_}
+use mathlib.Core.List.{List, [], _∷_}
+use Prim.Native.Nat.{ℕ, _+_, _<_, _≤_}
+use lib.ListN.{length, getD, drop}
+use Rattle.std.specs.declared.option.Option.{Option}
+use Rattle.std.specs.declared.option.Option.the-variants.{Some, None}
+use Rattle.std.specs.declared.result.Result.{Result}
+use Rattle.std.specs.declared.result.Result.the-variants.{Ok, Err}
+use Rattle.sheet.specs.declared.reader.Place.{Place}
+use Rattle.sheet.specs.declared.reader.RawLine.{RawLine}
+use Rattle.sheet.specs.declared.reader.Reader.{Reader}
+use Rattle.sheet.specs.declared.reader.Word.{Word}
+use Rattle.sheet.specs.declared.reader.Word.the-variants.{Number, Drain, Letter}
+use Rattle.sheet.specs.Parts.{Raw, ahead, lines}
+use Rattle.sheet.specs.Letters.{Slot, Misfit, Value, Says, Say}
+
+-- the line as it stands
+abbrev pub raw : RawLine → Raw
+raw l = record { bytes = l .bytes .now; ended = l .ended }
+
+-- the lines, and the words, that the reader has before it
+abbrev pub lines-ahead : Reader → List Raw
+lines-ahead r = lines (drop (r .at) (r .bytes .now))
+
+abbrev pub words-ahead : Reader → List (List ℕ)
+words-ahead r = ahead 32 (r .bytes .now) (r .at)
+
+-- the next line was taken
+pub record LineTaken (r q : Reader) (l : RawLine) : Type 0 where
+  pub ahead : lines-ahead r ≡ raw l ∷ lines-ahead q
+  pub number : l .number ≡ r .line
+  pub line : q .line ≡ r .line + 1
+  pub further : r .at < q .at
+  pub few : length (l .bytes .now) ≤ 65536
+
+abbrev pub NextLine : Reader → Reader → Option RawLine → Type 0
+NextLine r q None = (lines-ahead r ≡ []) × (q .line ≡ r .line)
+NextLine r q (Some l) = LineTaken r q l
+
+abbrev pub part : Word → List ℕ
+part (Number p c) = p .now
+part (Drain p c) = p .now
+part (Letter p c) = p .now
+
+abbrev pub place : Word → Place
+place (Number p c) = c
+place (Drain p c) = c
+place (Letter p c) = c
+
+abbrev pub Digit : ℕ → Type 0
+Digit b = (48 ≤ b) × (b ≤ 57)
+
+-- what the first byte of a word makes it
+abbrev pub Sorted : Word → ℕ → Type 0
+Sorted (Number p c) b = Digit b
+Sorted (Drain p c) b = b ≡ 42
+Sorted (Letter p c) b = (Digit b → ⊥) × (b ≡ 42 → ⊥)
+
+-- the next word was taken
+pub record WordTaken (r q : Reader) (w : Word) : Type 0 where
+  pub ahead : words-ahead r ≡ part w ∷ words-ahead q
+  pub some : 0 < length (part w)
+  pub line : place w .line ≡ r .line
+  pub column : place w .column ≡ r .column
+  pub moved : q .column ≡ r .column + length (part w) + 1
+  pub sorted : Sorted w (getD (part w) 0 0)
+
+-- no word is left, and x is the column after the line; or the next is empty, and x is its column
+abbrev pub NoWord : Reader → ℕ → Type 0
+NoWord r x = ((words-ahead r ≡ []) × (x + 1 ≡ r .column)) ⊎ ((ws : List (List ℕ)) × (words-ahead r ≡ [] ∷ ws) × (x ≡ r .column))
+
+abbrev pub NextWord : Reader → Reader → Result Word ℕ → Type 0
+NextWord r q (Ok w) = WordTaken r q w
+NextWord r q (Err x) = NoWord r x
+
+-- the next word was taken, and says e
+pub record Took (r q : Reader) (e : Value) : Type 0 where
+  pub word : List ℕ
+  pub ahead : words-ahead r ≡ word ∷ words-ahead q
+  pub says : Says word e
+  pub moved : q .column ≡ r .column + length word + 1
+
+-- the next word is missing or does not fit the place t, at column x, whatever places follow
+abbrev pub Fails : Slot → Reader → ℕ → Type 0
+Fails t r x = (ts : List Slot) → Misfit (r .column) (t ∷ ts) (words-ahead r) x
+
+-- all words before the reader fit the places ts and say what the answer holds; or the answer is the column where they fail
+abbrev pub WordsRead : {A : Type 0} → Reader → List Slot → Result A ℕ → (A → List Value) → Type 0
+WordsRead r ts (Ok a) f = Say (words-ahead r) (f a)
+WordsRead r ts (Err x) f = Misfit (r .column) ts (words-ahead r) x

@@ -1,0 +1,78 @@
+// Sheets: the text by which the laboratory is driven, read in the caller's own bytes.
+ghost use mathlib.Core.Path.{_≡_};
+ghost use Rattle.sheet.specs.Letters.{kind};
+
+mod reader;
+mod words;
+
+// The letter that a line begins with.
+#[derive(Clone, Copy, PartialEq, Eq, Debug)]
+pub enum Kind {
+    Grid,
+    Sites,
+    Link,
+    Earth,
+    Merge,
+    Cut,
+    Height,
+    Ceiling,
+    Drop,
+    Fire,
+    Run,
+    Wave,
+    Close,
+    Shelve,
+    Resume,
+}
+
+// The far end of a link: a site or the drain.
+#[derive(Clone, Copy, PartialEq, Eq, Debug)]
+pub enum End {
+    Site(u64),
+    Drain,
+}
+
+// What a line says.
+#[derive(Clone, Copy, PartialEq, Eq, Debug)]
+pub enum Line {
+    Grid { rows: u64, columns: u64 },
+    Sites { count: u64 },
+    Link { site: u64, end: End, links: u64 },
+    Earth { site: u64 },
+    Merge { from: u64, into: u64 },
+    Cut { site: u64, end: End, links: u64 },
+    Height { site: u64, grains: u64 },
+    Ceiling { firings: u64 },
+    Drop { site: u64, grains: u64 },
+    Fire { site: u64 },
+    Run { budget: u64 },
+    Wave,
+    Close,
+    Shelve,
+    Resume,
+}
+
+impl Line {
+    // The letter that the line begins with.
+    pub fn kind(self) -> Kind
+        ensures { λ r. ⌜ r ≡ kind self ⌝ }
+    {
+        match self {
+            Line::Grid { rows: _, columns: _ } => Kind::Grid,
+            Line::Sites { count: _ } => Kind::Sites,
+            Line::Link { site: _, end: _, links: _ } => Kind::Link,
+            Line::Earth { site: _ } => Kind::Earth,
+            Line::Merge { from: _, into: _ } => Kind::Merge,
+            Line::Cut { site: _, end: _, links: _ } => Kind::Cut,
+            Line::Height { site: _, grains: _ } => Kind::Height,
+            Line::Ceiling { firings: _ } => Kind::Ceiling,
+            Line::Drop { site: _, grains: _ } => Kind::Drop,
+            Line::Fire { site: _ } => Kind::Fire,
+            Line::Run { budget: _ } => Kind::Run,
+            Line::Wave => Kind::Wave,
+            Line::Close => Kind::Close,
+            Line::Shelve => Kind::Shelve,
+            Line::Resume => Kind::Resume,
+        }
+    }
+}
