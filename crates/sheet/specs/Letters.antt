@@ -56,27 +56,27 @@ abbrev pub reached : Option Kind → ℕ
 reached None = 0
 reached (Some k) = stage k
 
--- a letter may stand right behind the stages from a to b
-abbrev pub Between : ℕ → ℕ → ℕ → Type 0
-Between a b p = (a ≤ p) × (p ≤ b)
+-- the first and the last stage that a letter may stand right behind
+abbrev pub behind : Kind → ℕ × ℕ
+behind Sites = (0, 0)
+behind Grid = (0, 0)
+behind Link = (1, 2)
+behind Earth = (1, 3)
+behind Merge = (1, 4)
+behind Cut = (1, 6)
+behind Height = (1, 7)
+behind Ceiling = (1, 7)
+behind Drop = (8, 9)
+behind Fire = (8, 9)
+behind Run = (8, 9)
+behind Wave = (8, 9)
+behind Close = (8, 9)
+behind Shelve = (8, 9)
+behind Resume = (8, 9)
 
 -- a letter may stand behind the letter before it, or at the start
 abbrev pub May : Option Kind → Kind → Type 0
-May p Sites = Between 0 0 (reached p)
-May p Grid = Between 0 0 (reached p)
-May p Link = Between 1 2 (reached p)
-May p Earth = Between 1 3 (reached p)
-May p Merge = Between 1 4 (reached p)
-May p Cut = Between 1 6 (reached p)
-May p Height = Between 1 7 (reached p)
-May p Ceiling = Between 1 7 (reached p)
-May p Drop = Between 8 9 (reached p)
-May p Fire = Between 8 9 (reached p)
-May p Run = Between 8 9 (reached p)
-May p Wave = Between 8 9 (reached p)
-May p Close = Between 8 9 (reached p)
-May p Shelve = Between 8 9 (reached p)
-May p Resume = Between 8 9 (reached p)
+May p k = (behind k .0 ≤ reached p) × (reached p ≤ behind k .1)
 
 -- what may stand in a word's place: a number, or a number or the drain
 pub data Slot : Type 0 where

@@ -4,17 +4,20 @@ use mathlib.Core.Logic.{_⊎_}
 use mathlib.Core.List.{List, [], _∷_}
 use Prim.Native.Nat.{ℕ, _+_, _<_, _≤_}
 use lib.ListN.{length, getD, drop}
+use denote.Ref.{RefT}
 use Rattle.std.specs.declared.option.Option.{Option}
 use Rattle.std.specs.declared.option.Option.the-variants.{Some, None}
 use Rattle.std.specs.declared.result.Result.{Result}
 use Rattle.std.specs.declared.result.Result.the-variants.{Ok, Err}
+use Rattle.sheet.specs.declared.Kind.{Kind}
+use Rattle.sheet.specs.declared.Line.{Line}
 use Rattle.sheet.specs.declared.reader.Place.{Place}
 use Rattle.sheet.specs.declared.reader.RawLine.{RawLine}
 use Rattle.sheet.specs.declared.reader.Reader.{Reader}
 use Rattle.sheet.specs.declared.reader.Word.{Word}
 use Rattle.sheet.specs.declared.reader.Word.the-variants.{Number, Drain, Letter}
-use Rattle.sheet.specs.Parts.{Raw, ahead, lines}
-use Rattle.sheet.specs.Letters.{Slot, Misfit, Value, Says, Say}
+use Rattle.sheet.specs.Parts.{Raw, parts, ahead, lines}
+use Rattle.sheet.specs.Letters.{letter, Slot, slots, Misfit, Value, Says, Say, kind, said}
 
 -- the line as it stands
 abbrev pub raw : RawLine → Raw
@@ -90,3 +93,26 @@ Fails t r x = (ts : List Slot) → Misfit (r .column) (t ∷ ts) (words-ahead r)
 abbrev pub WordsRead : {A : Type 0} → Reader → List Slot → Result A ℕ → (A → List Value) → Type 0
 WordsRead r ts (Ok a) f = Say (words-ahead r) (f a)
 WordsRead r ts (Err x) f = Misfit (r .column) ts (words-ahead r) x
+
+-- all words before the reader are those that the letter k wants, and the line says them; or the column where they fail
+abbrev pub LineRead : Kind → Reader → Result Line ℕ → Type 0
+LineRead k r (Ok x) = (kind x ≡ k) × Say (words-ahead r) (said x)
+LineRead k r (Err c) = Misfit (r .column) (slots k) (words-ahead r) c
+
+-- the letter that a byte is, or that it is none
+abbrev pub Known : ℕ → Option Kind → Type 0
+Known c (Some k) = letter k ≡ c
+Known c None = (k : Kind) → letter k ≡ c → ⊥
+
+-- the words behind the letter: those of the rest, or none where the line is its letter alone
+abbrev pub rest-words : Option (RefT (List ℕ)) → List (List ℕ)
+rest-words None = []
+rest-words (Some rest) = parts 32 (rest .now)
+
+-- the line's first word is the letter of k, and these words stand behind it
+abbrev pub Head : List ℕ → Kind → List (List ℕ) → Type 0
+Head l k ws = parts 32 l ≡ (letter k ∷ []) ∷ ws
+
+abbrev pub Apart : List ℕ → Option (Kind × Option (RefT (List ℕ))) → Type 0
+Apart l (Some p) = Head l (p .0) (rest-words (p .1))
+Apart l None = (k : Kind) (ws : List (List ℕ)) → Head l k ws → ⊥

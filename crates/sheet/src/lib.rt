@@ -2,6 +2,7 @@
 ghost use mathlib.Core.Path.{_≡_};
 ghost use Rattle.sheet.specs.Letters.{kind};
 
+mod letters;
 mod reader;
 mod words;
 
