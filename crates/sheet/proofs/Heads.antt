@@ -9,8 +9,7 @@ use Rattle.std.proofs.shelf.Tests.{cases-eq}
 use Rattle.sheet.specs.declared.Kind.{Kind}
 use Rattle.sheet.specs.declared.Kind.the-variants.{Grid, Sites, Link, Earth, Merge, Cut, Height, Ceiling, Drop, Fire, Run, Wave, Close, Shelve, Resume}
 use Rattle.sheet.specs.Parts.{parts, fronted}
-use Rattle.sheet.specs.Letters.{letter}
-use Rattle.sheet.specs.Reading.{Head}
+use Rattle.sheet.specs.Letters.{letter, Head}
 use Rattle.sheet.proofs.Cuts.{Free, parts-stop, parts-other, parts-cut, parts-last, parts-some, single-is}
 
 letter-no-space : (k : Kind) → letter k ≡ 32 → ⊥

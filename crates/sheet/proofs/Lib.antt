@@ -2,3 +2,4 @@ pub mod Cuts
 pub mod Decimals
 pub mod Misfits
 pub mod Heads
+pub mod Verdicts

@@ -13,7 +13,7 @@ use Rattle.sheet.specs.declared.End.{End}
 use Rattle.sheet.specs.declared.End.the-variants.{Site, Drain}
 use Rattle.sheet.specs.declared.Line.{Line}
 use Rattle.sheet.specs.declared.Line.the-variants as line
-use Rattle.sheet.specs.Parts.{Number}
+use Rattle.sheet.specs.Parts.{Number, parts}
 
 -- the byte of a letter: g n l e m c h k d f r w s p u
 abbrev pub letter : Kind → ℕ
@@ -32,6 +32,10 @@ letter Wave = 119
 letter Close = 115
 letter Shelve = 112
 letter Resume = 117
+
+-- the first word of a line is the letter of k, and these words stand behind it
+abbrev pub Head : List ℕ → Kind → List (List ℕ) → Type 0
+Head l k ws = parts 32 l ≡ (letter k ∷ []) ∷ ws
 
 -- where a letter stands in a sheet: n, l, g, e, m, c, h, k, commands; a sheet's start is at 0
 abbrev pub stage : Kind → ℕ

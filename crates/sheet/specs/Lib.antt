@@ -1,3 +1,4 @@
 pub mod Parts
 pub mod Letters
 pub mod Reading
+pub mod Form

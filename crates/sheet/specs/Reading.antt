@@ -17,7 +17,7 @@ use Rattle.sheet.specs.declared.reader.Reader.{Reader}
 use Rattle.sheet.specs.declared.reader.Word.{Word}
 use Rattle.sheet.specs.declared.reader.Word.the-variants.{Number, Drain, Letter}
 use Rattle.sheet.specs.Parts.{Raw, parts, ahead, lines}
-use Rattle.sheet.specs.Letters.{letter, Slot, slots, Misfit, Value, Says, Say, kind, said}
+use Rattle.sheet.specs.Letters.{letter, Head, Slot, slots, Misfit, Value, Says, Say, kind, said}
 
 -- the line as it stands
 abbrev pub raw : RawLine → Raw
@@ -109,10 +109,12 @@ abbrev pub rest-words : Option (RefT (List ℕ)) → List (List ℕ)
 rest-words None = []
 rest-words (Some rest) = parts 32 (rest .now)
 
--- the line's first word is the letter of k, and these words stand behind it
-abbrev pub Head : List ℕ → Kind → List (List ℕ) → Type 0
-Head l k ws = parts 32 l ≡ (letter k ∷ []) ∷ ws
+-- the rest has at most n bytes
+abbrev pub Few : Option (RefT (List ℕ)) → ℕ → Type 0
+Few None n = Unit {0}
+Few (Some rest) n = length (rest .now) ≤ n
 
+-- a line taken apart as its letter and the rest; or its first word is no letter
 abbrev pub Apart : List ℕ → Option (Kind × Option (RefT (List ℕ))) → Type 0
-Apart l (Some p) = Head l (p .0) (rest-words (p .1))
+Apart l (Some p) = Head l (p .0) (rest-words (p .1)) × Few (p .1) (length l)
 Apart l None = (k : Kind) (ws : List (List ℕ)) → Head l k ws → ⊥

@@ -3,8 +3,14 @@ ghost use mathlib.Core.Path.{_≡_};
 ghost use Rattle.sheet.specs.Letters.{kind};
 
 mod letters;
+mod lines;
 mod reader;
 mod words;
+
+use refusal::Refusal;
+use refusal::RefusalDebug;
+use refusal::RefusalEq;
+use refusal::RefusalPartialEq;
 
 // The letter that a line begins with.
 #[derive(Clone, Copy, PartialEq, Eq, Debug)]
@@ -51,6 +57,13 @@ pub enum Line {
     Close,
     Shelve,
     Resume,
+}
+
+// A refusal, with the line of the sheet that it belongs to: 0 for the sheet as a whole.
+#[derive(Clone, Copy, PartialEq, Eq, Debug)]
+pub struct LineRefusal {
+    pub line: usize,
+    pub refusal: Refusal,
 }
 
 impl Line {

@@ -1,0 +1,91 @@
+// One line: its bytes, its letter in its order, and the words behind it.
+ghost use mathlib.Core.Path.{_≡_};
+ghost use mathlib.Core.Bool.{true, false};
+ghost use mathlib.Core.List.{List, []};
+ghost use Prim.Native.Nat.{ℕ, _≤_};
+ghost use lib.ListN.{length};
+ghost use Rattle.std.specs.declared.option.Option.the-variants.{Some, None};
+ghost use Rattle.std.specs.declared.result.Result.the-variants.{Ok, Err};
+ghost use Rattle.refusal.specs.Table.{Refused};
+ghost use Rattle.refusal.specs.declared.Part.the-variants.{Sheet};
+ghost use Rattle.sheet.specs.Reading.{raw, rest-words, Few, words-ahead};
+ghost use Rattle.sheet.specs.Form.{Plain, PlainTo, BadByte, Fine, line-checks};
+use super::Kind;
+use super::Line;
+use super::letters::apart;
+use super::letters::read_words;
+use super::reader::RawLine;
+use super::reader::Reader;
+use refusal::Part;
+use refusal::Refusal;
+use refusal::Row;
+
+// Whether a line may hold the byte.
+fn is_plain(b: u8) -> bool
+    ensures { λ r. ⌜ (r ≡ true → Plain b) × (r ≡ false → Plain b → ⊥) ⌝ }
+{
+    match b {
+        b'a'..=b'z' => true,
+        b'0'..=b'9' => true,
+        b' ' => true,
+        b'*' => true,
+        _ => false,
+    }
+}
+
+// The column of the first byte that no line may hold, or where byte 10 is missing.
+fn bad_byte(line: RawLine) -> Option<usize>
+    requires { ⌜ length (now (line .bytes)) ≤ 65536 ⌝ }
+    ensures { λ r. ⌜ elim r [ Some c ↦ BadByte (raw (line .entry)) c | None ↦ PlainTo (now (line .entry .bytes)) (length (now (line .entry .bytes))) × (line .entry .ended ≡ true) ] ⌝ }
+{
+    for (i, b) in line.bytes.iter().enumerate() {
+        if !is_plain(*b) {
+            return Some(i + 1);
+        }
+    }
+    if line.ended {
+        return None;
+    }
+    Some(line.bytes.len() + 1)
+}
+
+impl<'a> Reader<'a> {
+    // The reader of the words behind a line's letter: none where the line is its letter alone.
+    fn behind_letter(rest: Option<&'a [u8]>, line: usize) -> Reader<'a>
+        requires { ⌜ line ≤ 65537 ⌝ ∗ ⌜ Few rest 65536 ⌝ }
+        ensures { λ r. ⌜ (words-ahead r ≡ rest-words (rest .entry)) × (r .column ≡ 3) ⌝ }
+    {
+        match rest {
+            Some(bytes) => Reader { bytes, at: 0, line, column: 3 },
+            None => Reader { bytes: &[], at: 1, line, column: 3 },
+        }
+    }
+}
+
+// What a line says, behind the last letter; or the first of its rows that comes.
+pub fn read_line(last: Option<Kind>, line: RawLine) -> Result<Line, Refusal>
+    requires { ⌜ length (now (line .bytes)) ≤ 65536 ⌝ ∗ ⌜ line .number ≤ 65537 ⌝ }
+    ensures { λ r. ⌜ elim r [ Ok x ↦ Fine last (raw (line .entry)) x | Err e ↦ Refused (line-checks last (raw (line .entry))) Sheet e ] ⌝ }
+{
+    if let Some(column) = bad_byte(line) {
+        return Err(refused(Row::Byte, column));
+    }
+    let Some((kind, rest)) = apart(line.bytes) else {
+        return Err(refused(Row::Letter, 1));
+    };
+    if !kind.may_follow(last) {
+        return Err(refused(Row::Letter, 1));
+    }
+    let mut words = Reader::behind_letter(rest, line.number);
+    match read_words(kind, &mut words) {
+        Ok(x) => Ok(x),
+        Err(column) => Err(refused(Row::Word, column)),
+    }
+}
+
+// A refusal of the sheet.
+fn refused(row: Row, place: usize) -> Refusal
+    ensures { λ r. ⌜ (r .row ≡ row) × (r .place ≡ place) × (r .part ≡ Sheet) ⌝ }
+{
+    Refusal { row, place: place as u64, part: Part::Sheet }
+}
