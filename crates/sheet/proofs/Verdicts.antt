@@ -1,21 +1,28 @@
 -- A line's rows in their order, and a sheet's verdict line by line.
-use mathlib.Core.Path.{_≡_, sym, subst, _∙_}
+use mathlib.Core.Path.{_≡_, refl, sym, ap, subst, _∙_}
 use mathlib.Core.Bool.{true, false}
 use mathlib.Core.Logic.{_⊎_, inl, inr}
-use mathlib.Core.List.{List, [], _∷_}
+use mathlib.Core.List.{List, [], _∷_, _++_, append-assoc}
 use Prim.Native.Nat.{ℕ, _+_, _<_, _≤_}
 use native.Mathlib.Omega.{arith}
-use lib.ListN.{length, getD}
+use lib.ListN.{length, getD, drop}
 use Rattle.std.proofs.shelf.Tests.{cases-lt, both-ways}
+use Rattle.std.proofs.shelf.Lists.{append-nil, length-push}
 use Rattle.std.specs.declared.option.Option.{Option}
+use Rattle.std.specs.declared.option.Option.the-variants.{Some, None}
+use Rattle.std.specs.declared.result.Result.the-variants.{Ok}
 use Rattle.refusal.specs.declared.Refusal.{Refusal}
 use Rattle.refusal.specs.declared.Row.the-variants.{Letter, Word}
 use Rattle.refusal.specs.declared.Part.the-variants.{Sheet}
 use Rattle.refusal.specs.Table.{Refused}
 use Rattle.sheet.specs.declared.Kind.{Kind}
-use Rattle.sheet.specs.Parts.{Raw}
-use Rattle.sheet.specs.Letters.{Head, May, slots, Misfit}
-use Rattle.sheet.specs.Form.{PlainTo, BadByte, BadLetter, line-checks}
+use Rattle.sheet.specs.declared.Line.{Line}
+use Rattle.sheet.specs.declared.LineRefusal.{LineRefusal}
+use Rattle.sheet.specs.declared.reader.Reader.{Reader}
+use Rattle.sheet.specs.Parts.{Raw, lines}
+use Rattle.sheet.specs.Letters.{Head, May, slots, Misfit, kind}
+use Rattle.sheet.specs.Form.{PlainTo, BadByte, BadLetter, line-checks, Capped, AllFine, FirstBad}
+use Rattle.sheet.specs.Reading.{lines-ahead, LineSaid, NextSaid}
 
 pub silent-byte : (l : Raw) → PlainTo (l .bytes) (length (l .bytes)) → l .ended ≡ true → (c : ℕ) → BadByte l c → ⊥
 silent-byte l plain ended c bad =
@@ -36,3 +43,41 @@ by-word p l e k ws plain ended head may fails row part =
       by = inr (silent-byte l plain ended, inr (silent-letter p l k ws head may, inl (row, record { letter = k; words = ws; head = head; fails = fails })));
       from = part;
     }
+
+-- a reader that has come to some line, with the lines `done` behind it: what it finds from here on holds of the sheet
+pub record Come (s : List ℕ) (r : Reader) (p : Option Kind) (done : List Line) : Type 0 where
+  pub same : r .bytes .now ≡ s
+  pub low : r .line ≤ r .at + 1
+  pub few : length done ≤ r .at
+  pub bad : (f : LineRefusal) → FirstBad p (r .line) (lines-ahead r) f → FirstBad None 1 (lines s) f
+  pub good : (xs : List Line) → AllFine p (lines-ahead r) xs → AllFine None (lines s) (done ++ xs)
+
+pub come-start : (r : Reader) → r .at ≡ 0 → r .line ≡ 1 → Come (r .bytes .now) r None []
+come-start r at line =
+    let s = r .bytes .now in
+    let here : lines-ahead r ≡ lines s = ap (λ k. lines (drop k s)) at in
+    record {
+      same = refl;
+      low = omega arith;
+      few = omega arith;
+      bad = λ f b. subst (λ ls. FirstBad None 1 ls f) here (subst (λ n. FirstBad None n (lines-ahead r) f) line b);
+      good = λ xs g. subst (λ ls. AllFine None ls xs) here g;
+    }
+
+pub come-more : {s : List ℕ} {r q : Reader} {p : Option Kind} {done : List Line} (x : Line) → Come s r p done → LineSaid r q p x → q .bytes .now ≡ r .bytes .now → Come s q (Some (kind x)) (done ++ x ∷ [])
+come-more {s} {r} {q} {p} {done} x come next same =
+    record {
+      same = same ∙ come .same;
+      low = omega (arith, come .low, next .line, next .further);
+      few = omega (arith, come .few, next .further, length-push done x);
+      bad = λ f b. come .bad f (subst (λ ls. FirstBad p (r .line) ls f) (sym (next .ahead)) (inr (x, next .fine, subst (λ n. FirstBad (Some (kind x)) n (lines-ahead q) f) (next .line) b)));
+      good = λ xs g. subst (λ ys. AllFine None (lines s) ys) (sym (append-assoc done (x ∷ []) xs)) (come .good (x ∷ xs) (subst (λ ls. AllFine p ls (x ∷ xs)) (sym (next .ahead)) (next .fine, g)));
+    }
+
+pub said-some : {r q : Reader} {p : Option Kind} {o : Option Line} {x : Line} → o ≡ Some x → NextSaid r q p (Ok o) → LineSaid r q p x
+said-some {r} {q} {p} e h = subst (λ (o : Option Line). NextSaid r q p (Ok o)) e h
+
+pub come-end : {s : List ℕ} {r : Reader} {p : Option Kind} {done : List Line} (q : Reader) {o : Option Line} → Come s r p done → o ≡ None → NextSaid r q p (Ok o) → AllFine None (lines s) done
+come-end {s} {r} {p} {done} q come e h =
+    let end = subst (λ (o : Option Line). NextSaid r q p (Ok o)) e h in
+    subst (λ ys. AllFine None (lines s) ys) (append-nil done) (come .good [] (subst (λ ls. AllFine p ls []) (sym (end .0)) (end .1)))

@@ -7,6 +7,8 @@ use Prim.Native.Nat.{ℕ, _+_, _<_, _≤_}
 use lib.ListN.{length, getD}
 use Rattle.std.specs.declared.option.Option.{Option}
 use Rattle.std.specs.declared.option.Option.the-variants.{Some, None}
+use Rattle.std.specs.declared.result.Result.{Result}
+use Rattle.std.specs.declared.result.Result.the-variants.{Ok, Err}
 use Rattle.refusal.specs.declared.Refusal.{Refusal}
 use Rattle.refusal.specs.declared.Row.{Row}
 use Rattle.refusal.specs.declared.Row.the-variants as row
@@ -15,6 +17,8 @@ use Rattle.refusal.specs.Table.{Check, Refused}
 use Rattle.sheet.specs.declared.Kind.{Kind}
 use Rattle.sheet.specs.declared.Line.{Line}
 use Rattle.sheet.specs.declared.LineRefusal.{LineRefusal}
+use Rattle.sheet.specs.declared.Unread.{Unread}
+use Rattle.sheet.specs.declared.Unread.the-variants.{Form, Memory}
 use Rattle.sheet.specs.Parts.{Raw, lines}
 use Rattle.sheet.specs.Letters.{Head, reached, May, slots, Misfit, kind, said, Say}
 
@@ -94,3 +98,13 @@ abbrev pub Faulty : List ℕ → LineRefusal → Type 0
 Faulty s f =
     ((65536 < length s) × (f ≡ at 0 row.Limit 0))
     ⊎ ((length s ≤ 65536) × FirstBad None 1 (lines s) f)
+
+-- what the form check answers: how many lines a sheet of good form has, or the refusal of any other
+abbrev pub Checked : List ℕ → Result ℕ LineRefusal → Type 0
+Checked s (Ok n) = (xs : List Line) × Good s xs × (n ≡ length xs)
+Checked s (Err f) = Faulty s f
+
+-- why a sheet was not read: its form, or want of memory for a sheet of good form
+abbrev pub Unreadable : List ℕ → Unread → Type 0
+Unreadable s (Form f) = Faulty s f
+Unreadable s Memory = (xs : List Line) × Good s xs

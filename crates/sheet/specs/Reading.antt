@@ -11,12 +11,14 @@ use Rattle.std.specs.declared.result.Result.{Result}
 use Rattle.std.specs.declared.result.Result.the-variants.{Ok, Err}
 use Rattle.sheet.specs.declared.Kind.{Kind}
 use Rattle.sheet.specs.declared.Line.{Line}
+use Rattle.sheet.specs.declared.LineRefusal.{LineRefusal}
 use Rattle.sheet.specs.declared.reader.Place.{Place}
 use Rattle.sheet.specs.declared.reader.RawLine.{RawLine}
 use Rattle.sheet.specs.declared.reader.Reader.{Reader}
 use Rattle.sheet.specs.declared.reader.Word.{Word}
 use Rattle.sheet.specs.declared.reader.Word.the-variants.{Number, Drain, Letter}
 use Rattle.sheet.specs.Parts.{Raw, parts, ahead, lines}
+use Rattle.sheet.specs.Form.{Fine, Capped, FirstBad}
 use Rattle.sheet.specs.Letters.{letter, Head, Slot, slots, Misfit, Value, Says, Say, kind, said}
 
 -- the line as it stands
@@ -118,3 +120,17 @@ Few (Some rest) n = length (rest .now) ≤ n
 abbrev pub Apart : List ℕ → Option (Kind × Option (RefT (List ℕ))) → Type 0
 Apart l (Some p) = Head l (p .0) (rest-words (p .1)) × Few (p .1) (length l)
 Apart l None = (k : Kind) (ws : List (List ℕ)) → Head l k ws → ⊥
+
+-- the next line is of good form behind the letter p, and says x
+pub record LineSaid (r q : Reader) (p : Option Kind) (x : Line) : Type 0 where
+  pub bytes : Raw
+  pub ahead : lines-ahead r ≡ bytes ∷ lines-ahead q
+  pub fine : Fine p bytes x
+  pub line : q .line ≡ r .line + 1
+  pub further : r .at < q .at
+
+-- the next line, the end of a sheet that has come to k, or the refusal
+abbrev pub NextSaid : Reader → Reader → Option Kind → Result (Option Line) LineRefusal → Type 0
+NextSaid r q p (Ok (Some x)) = LineSaid r q p x
+NextSaid r q p (Ok None) = (lines-ahead r ≡ []) × Capped p
+NextSaid r q p (Err f) = FirstBad p (r .line) (lines-ahead r) f

@@ -2,11 +2,14 @@
 ghost use mathlib.Core.Path.{_≡_};
 ghost use Rattle.sheet.specs.Letters.{kind};
 
+mod form;
 mod letters;
 mod lines;
 mod reader;
 mod words;
 
+pub use form::check_form;
+pub use form::read_sheet;
 use refusal::Refusal;
 use refusal::RefusalDebug;
 use refusal::RefusalEq;
@@ -64,6 +67,13 @@ pub enum Line {
 pub struct LineRefusal {
     pub line: usize,
     pub refusal: Refusal,
+}
+
+// Why a sheet was not read: its form is bad, or memory for its lines is wanting.
+#[derive(Clone, Copy, PartialEq, Eq, Debug)]
+pub enum Unread {
+    Form(LineRefusal),
+    Memory,
 }
 
 impl Line {

@@ -84,7 +84,7 @@ pub fn read_line(last: Option<Kind>, line: RawLine) -> Result<Line, Refusal>
 }
 
 // A refusal of the sheet.
-fn refused(row: Row, place: usize) -> Refusal
+pub fn refused(row: Row, place: usize) -> Refusal
     ensures { λ r. ⌜ (r .row ≡ row) × (r .place ≡ place) × (r .part ≡ Sheet) ⌝ }
 {
     Refusal { row, place: place as u64, part: Part::Sheet }

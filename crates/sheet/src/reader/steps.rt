@@ -29,6 +29,14 @@ fn find(bytes: &[u8], from: usize, stop: u8) -> usize
 }
 
 impl<'a> Reader<'a> {
+    // A reader at the start of a sheet.
+    pub fn over(bytes: &'a [u8]) -> Reader<'a>
+        requires { ⌜ length (now bytes) ≤ 65536 ⌝ }
+        ensures { λ r. ⌜ (now (r .bytes) ≡ now (bytes .entry)) × (r .at ≡ 0) × (r .line ≡ 1) ⌝ }
+    {
+        Reader { bytes, at: 0, line: 1, column: 1 }
+    }
+
     // The bytes up to the next stop or the end; the cursor goes behind the stop.
     fn part(&mut self, stop: u8) -> &'a [u8]
         requires { ⌜ now self .at ≤ length (now (now self .bytes)) ⌝ }
