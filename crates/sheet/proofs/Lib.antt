@@ -3,3 +3,4 @@ pub mod Decimals
 pub mod Misfits
 pub mod Heads
 pub mod Verdicts
+pub mod Uniques

@@ -2,3 +2,4 @@ pub mod Parts
 pub mod Letters
 pub mod Reading
 pub mod Form
+pub mod Laws

@@ -5,6 +5,7 @@ ghost use Rattle.std.specs.Of.Vec.{vec-items};
 ghost use Rattle.std.specs.declared.result.Result.the-variants.{Ok, Err};
 ghost use Rattle.sheet.specs.declared.Unread.the-variants.{Form, Memory};
 ghost use Rattle.sheet.specs.Form.{Good, Checked, Unreadable};
+ghost use Rattle.sheet.specs.Laws.{Not-both, One-reading, One-refusal, Rows-in-order};
 ghost use Rattle.sheet.specs.Reading.{NextSaid};
 use super::Kind;
 use super::Line;
@@ -70,6 +71,17 @@ pub fn read_sheet(heap: Global, sheet: &[u8]) -> Result<Vec<Line>, Unread>
         said.push(line)?;
     }
     Ok(said)
+}
+
+// The form check's answer is the only one: good form and refusal exclude each other, a sheet says one list of lines,
+// is refused in one way, and a line's rows are checked in the table's order.
+pub fn form_is_decided() -> u8
+    ensures not_both { λ _. ⌜ Not-both ⌝ }
+    ensures one_reading { λ _. ⌜ One-reading ⌝ }
+    ensures one_refusal { λ _. ⌜ One-refusal ⌝ }
+    ensures ordered { λ _. ⌜ Rows-in-order ⌝ }
+{
+    0
 }
 
 pub impl From<LineRefusal> for Unread as UnreadFromForm {

@@ -9,6 +9,7 @@ mod reader;
 mod words;
 
 pub use form::check_form;
+pub use form::form_is_decided;
 pub use form::read_sheet;
 use refusal::Refusal;
 use refusal::RefusalDebug;
