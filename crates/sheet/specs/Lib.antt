@@ -3,3 +3,4 @@ pub mod Letters
 pub mod Reading
 pub mod Form
 pub mod Laws
+pub mod Report

@@ -6,11 +6,13 @@ mod form;
 mod letters;
 mod lines;
 mod reader;
+mod refused;
 mod words;
 
 pub use form::check_form;
 pub use form::form_is_decided;
 pub use form::read_sheet;
+pub use refused::LineRefusalDisplay;
 use refusal::Refusal;
 use refusal::RefusalDebug;
 use refusal::RefusalEq;
