@@ -1,11 +1,15 @@
 -- A line's first word: the letter alone, or the letter and a space.
 use mathlib.Core.Path.{_≡_, refl, sym, ap, _∙_}
+use mathlib.Core.Bool.{cond}
 use mathlib.Core.Logic.{_⊎_, inl, inr}
 use mathlib.Core.List.{List, [], _∷_}
 use Prim.Native.Nat.{ℕ, zero, suc, _<_, _≤_}
 use native.Mathlib.Omega.{arith}
+use lib.Dec.{eqb}
 use lib.ListN.{length, getD, drop}
 use Rattle.std.proofs.shelf.Tests.{cases-eq}
+use Rattle.std.specs.declared.option.Option.{Option}
+use Rattle.std.specs.declared.option.Option.the-variants.{Some, None}
 use Rattle.sheet.specs.declared.Kind.{Kind}
 use Rattle.sheet.specs.declared.Kind.the-variants.{Grid, Sites, Link, Earth, Merge, Cut, Height, Ceiling, Drop, Fire, Run, Wave, Close, Shelve, Resume}
 use Rattle.sheet.specs.Parts.{parts, fronted}
@@ -73,3 +77,50 @@ head-inverse (a ∷ b ∷ r) k ws h =
             let z : _≡_ {A = ℕ} 0 1 = cc in absurd (omega arith)
         ]
     ]
+
+-- the letter of a byte
+known : ℕ → Option Kind
+known c =
+    cond (eqb c 103) (Some Grid) (
+    cond (eqb c 110) (Some Sites) (
+    cond (eqb c 108) (Some Link) (
+    cond (eqb c 101) (Some Earth) (
+    cond (eqb c 109) (Some Merge) (
+    cond (eqb c 99) (Some Cut) (
+    cond (eqb c 104) (Some Height) (
+    cond (eqb c 107) (Some Ceiling) (
+    cond (eqb c 100) (Some Drop) (
+    cond (eqb c 102) (Some Fire) (
+    cond (eqb c 114) (Some Run) (
+    cond (eqb c 119) (Some Wave) (
+    cond (eqb c 115) (Some Close) (
+    cond (eqb c 112) (Some Shelve) (
+    cond (eqb c 117) (Some Resume) (None)))))))))))))))
+
+known-letter : (k : Kind) → known (letter k) ≡ Some k
+unfolding known
+known-letter Grid = refl
+known-letter Sites = refl
+known-letter Link = refl
+known-letter Earth = refl
+known-letter Merge = refl
+known-letter Cut = refl
+known-letter Height = refl
+known-letter Ceiling = refl
+known-letter Drop = refl
+known-letter Fire = refl
+known-letter Run = refl
+known-letter Wave = refl
+known-letter Close = refl
+known-letter Shelve = refl
+known-letter Resume = refl
+
+letter-one : (j k : Kind) → letter j ≡ letter k → j ≡ k
+letter-one j k e = let same = sym (known-letter j) ∙ ap known e ∙ known-letter k in cc
+
+-- a line has one letter, and one list of words behind it
+pub head-one : (l : List ℕ) (j k : Kind) (vs ws : List (List ℕ)) → Head l j vs → Head l k ws → (j ≡ k) × (vs ≡ ws)
+head-one l j k vs ws g h =
+    let same = sym g ∙ h in
+    let first : letter j ≡ letter k = cc in
+    (letter-one j k first, cc)

@@ -1,11 +1,9 @@
 -- A line says one thing, and is refused in one way.
 use mathlib.Core.Path.{_≡_, refl, sym, ap, subst, _∙_}
-use mathlib.Core.Bool.{cond}
 use mathlib.Core.Logic.{_⊎_, inl, inr}
 use mathlib.Core.List.{List, [], _∷_}
 use Prim.Native.Nat.{ℕ, zero, suc, _+_, _<_, _≤_}
 use native.Mathlib.Omega.{arith}
-use lib.Dec.{eqb}
 use lib.ListN.{length, getD}
 use Rattle.std.proofs.shelf.Tests.{cases-order}
 use Rattle.std.specs.declared.option.Option.{Option}
@@ -25,54 +23,8 @@ use Rattle.sheet.specs.Parts.{Raw, Number, lines}
 use Rattle.sheet.specs.Letters.{letter, Head, Slot, number, far, slots, Fits, Misfit, Value, amount, drain, drain-word, Says, Say, kind, said}
 use Rattle.sheet.specs.Form.{BadByte, BadLetter, BadWord, line-checks, Fine, AllFine, FirstBad, Good, Faulty}
 use Rattle.sheet.specs.Laws.{Not-both, One-reading, One-refusal, Rows-in-order}
+use Rattle.sheet.proofs.Heads.{head-one}
 use Rattle.sheet.proofs.Verdicts.{silent-byte, silent-letter}
-
--- the letter of a byte
-known : ℕ → Option Kind
-known c =
-    cond (eqb c 103) (Some Grid) (
-    cond (eqb c 110) (Some Sites) (
-    cond (eqb c 108) (Some Link) (
-    cond (eqb c 101) (Some Earth) (
-    cond (eqb c 109) (Some Merge) (
-    cond (eqb c 99) (Some Cut) (
-    cond (eqb c 104) (Some Height) (
-    cond (eqb c 107) (Some Ceiling) (
-    cond (eqb c 100) (Some Drop) (
-    cond (eqb c 102) (Some Fire) (
-    cond (eqb c 114) (Some Run) (
-    cond (eqb c 119) (Some Wave) (
-    cond (eqb c 115) (Some Close) (
-    cond (eqb c 112) (Some Shelve) (
-    cond (eqb c 117) (Some Resume) (None)))))))))))))))
-
-known-letter : (k : Kind) → known (letter k) ≡ Some k
-unfolding known
-known-letter Grid = refl
-known-letter Sites = refl
-known-letter Link = refl
-known-letter Earth = refl
-known-letter Merge = refl
-known-letter Cut = refl
-known-letter Height = refl
-known-letter Ceiling = refl
-known-letter Drop = refl
-known-letter Fire = refl
-known-letter Run = refl
-known-letter Wave = refl
-known-letter Close = refl
-known-letter Shelve = refl
-known-letter Resume = refl
-
-letter-one : (j k : Kind) → letter j ≡ letter k → j ≡ k
-letter-one j k e = let same = sym (known-letter j) ∙ ap known e ∙ known-letter k in cc
-
--- a line has one letter, and one list of words behind it
-head-one : (l : List ℕ) (j k : Kind) (vs ws : List (List ℕ)) → Head l j vs → Head l k ws → (j ≡ k) × (vs ≡ ws)
-head-one l j k vs ws g h =
-    let same = sym g ∙ h in
-    let first : letter j ≡ letter k = cc in
-    (letter-one j k first, cc)
 
 -- a word says one thing
 says-one : (w : List ℕ) (d e : Value) → Says w d → Says w e → d ≡ e

@@ -1,6 +1,6 @@
 -- A line's rows in their order, and a sheet's verdict line by line.
 use mathlib.Core.Path.{_≡_, refl, sym, ap, subst, _∙_}
-use mathlib.Core.Bool.{true, false}
+use mathlib.Core.Bool.{Bool, true, false}
 use mathlib.Core.Logic.{_⊎_, inl, inr}
 use mathlib.Core.List.{List, [], _∷_, _++_, append-assoc}
 use Prim.Native.Nat.{ℕ, _+_, _<_, _≤_}
@@ -10,7 +10,8 @@ use Rattle.std.proofs.shelf.Tests.{cases-lt, both-ways}
 use Rattle.std.proofs.shelf.Lists.{append-nil, length-push}
 use Rattle.std.specs.declared.option.Option.{Option}
 use Rattle.std.specs.declared.option.Option.the-variants.{Some, None}
-use Rattle.std.specs.declared.result.Result.the-variants.{Ok}
+use Rattle.std.specs.declared.result.Result.{Result}
+use Rattle.std.specs.declared.result.Result.the-variants.{Ok, Err}
 use Rattle.refusal.specs.declared.Refusal.{Refusal}
 use Rattle.refusal.specs.declared.Row.the-variants.{Letter, Word}
 use Rattle.refusal.specs.declared.Part.the-variants.{Sheet}
@@ -22,7 +23,8 @@ use Rattle.sheet.specs.declared.reader.Reader.{Reader}
 use Rattle.sheet.specs.Parts.{Raw, lines}
 use Rattle.sheet.specs.Letters.{Head, May, slots, Misfit, kind}
 use Rattle.sheet.specs.Form.{PlainTo, BadByte, BadLetter, line-checks, Capped, AllFine, FirstBad}
-use Rattle.sheet.specs.Reading.{lines-ahead, LineSaid, NextSaid}
+use Rattle.sheet.specs.Reading.{lines-ahead, LineSaid, NextSaid, AllPlain, WordsSaid, LetterFirst, Verdict}
+use Rattle.sheet.proofs.Heads.{head-one}
 
 pub silent-byte : (l : Raw) → PlainTo (l .bytes) (length (l .bytes)) → l .ended ≡ true → (c : ℕ) → BadByte l c → ⊥
 silent-byte l plain ended c bad =
@@ -32,17 +34,27 @@ silent-byte l plain ended c bad =
     ]
 
 pub silent-letter : (p : Option Kind) (l : Raw) (k : Kind) (ws : List (List ℕ)) → Head (l .bytes) k ws → May p k → (c : ℕ) → BadLetter p l c → ⊥
-silent-letter p l k ws head may c bad = bad .1 k ws head may
+silent-letter p l k ws head may c bad = bad .1 .none k ws head may
 
-pub by-letter : (p : Option Kind) (l : Raw) (e : Refusal) → PlainTo (l .bytes) (length (l .bytes)) → l .ended ≡ true → BadLetter p l (e .place) → e .row ≡ Letter → e .part ≡ Sheet → Refused (line-checks p l) Sheet e
-by-letter p l e plain ended bad row part = record { by = inr (silent-byte l plain ended, inl (row, bad)); from = part }
-
-pub by-word : (p : Option Kind) (l : Raw) (e : Refusal) (k : Kind) (ws : List (List ℕ)) → PlainTo (l .bytes) (length (l .bytes)) → l .ended ≡ true → Head (l .bytes) k ws → May p k → Misfit 3 (slots k) ws (e .place) → e .row ≡ Word → e .part ≡ Sheet → Refused (line-checks p l) Sheet e
-by-word p l e k ws plain ended head may fails row part =
+-- a line whose bytes are plain, by its letter and the words behind it
+pub verdict : (p : Option Kind) (l : Raw) (k : Kind) (ws : List (List ℕ)) (may : Bool) (words : Result Line ℕ) (r : Result Line Refusal) → AllPlain l → Head (l .bytes) k ws → ((may ≡ true → May p k) × (may ≡ false → May p k → ⊥)) → WordsSaid l k ws words → LetterFirst may words r → Verdict p l r
+verdict p l k ws may words (Ok x) plain head order said first =
+    let says = subst (WordsSaid l k ws) (first .1) said in
     record {
-      by = inr (silent-byte l plain ended, inr (silent-letter p l k ws head may, inl (row, record { letter = k; words = ws; head = head; fails = fails })));
+      plain = plain .plain;
+      ended = plain .ended;
+      words = ws;
+      head = subst (λ j. Head (l .bytes) j ws) (sym (says .0)) head;
+      may = subst (May p) (sym (says .0)) (order .0 (first .0));
+      says = says .1;
+    }
+verdict p l k ws may words (Err e) plain head order said (part, inl bad) =
+    record {
+      by = inr (plain .silent, inl (bad .1, (bad .2, record { none = λ j vs other may. order .1 (bad .0) (subst (May p) (head-one (l .bytes) j k vs ws other head .0) may) })));
       from = part;
     }
+verdict p l k ws may words (Err e) plain head order said (part, inr bad) =
+    record { by = inr (plain .silent, inr (silent-letter p l k ws head (order .0 (bad .0)), inl (bad .1, subst (WordsSaid l k ws) (bad .2) said))); from = part }
 
 -- a reader that has come to some line, with the lines `done` behind it: what it finds from here on holds of the sheet
 pub record Come (s : List ℕ) (r : Reader) (p : Option Kind) (done : List Line) : Type 0 where

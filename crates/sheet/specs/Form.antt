@@ -38,9 +38,12 @@ pub record BadByte (l : Raw) (c : ℕ) : Type 0 where
   pub here : place < length (l .bytes) → Plain (getD (l .bytes) place 0) → ⊥
   pub end : place ≡ length (l .bytes) → l .ended ≡ false
 
--- the first word is no letter that may stand here
+-- the first word is no letter that may stand behind the letter p
+pub record NoLetter (p : Option Kind) (l : List ℕ) : Type 0 where
+  pub none : (k : Kind) (ws : List (List ℕ)) → Head l k ws → May p k → ⊥
+
 abbrev pub BadLetter : Option Kind → Raw → ℕ → Type 0
-BadLetter p l c = (c ≡ 1) × ((k : Kind) (ws : List (List ℕ)) → Head (l .bytes) k ws → May p k → ⊥)
+BadLetter p l c = (c ≡ 1) × NoLetter p (l .bytes)
 
 -- column c is where the words behind the letter fail; they begin at column 3
 pub record BadWord (l : Raw) (c : ℕ) : Type 0 where

@@ -1,5 +1,6 @@
 -- What the reader's steps give: r is the reader before a step, q after it.
 use mathlib.Core.Path.{_≡_}
+use mathlib.Core.Bool.{Bool, true, false}
 use mathlib.Core.Logic.{_⊎_}
 use mathlib.Core.List.{List, [], _∷_}
 use Prim.Native.Nat.{ℕ, _+_, _<_, _≤_}
@@ -9,6 +10,10 @@ use Rattle.std.specs.declared.option.Option.{Option}
 use Rattle.std.specs.declared.option.Option.the-variants.{Some, None}
 use Rattle.std.specs.declared.result.Result.{Result}
 use Rattle.std.specs.declared.result.Result.the-variants.{Ok, Err}
+use Rattle.refusal.specs.declared.Refusal.{Refusal}
+use Rattle.refusal.specs.declared.Row.the-variants as row
+use Rattle.refusal.specs.declared.Part.the-variants.{Sheet}
+use Rattle.refusal.specs.Table.{Refused}
 use Rattle.sheet.specs.declared.Kind.{Kind}
 use Rattle.sheet.specs.declared.Line.{Line}
 use Rattle.sheet.specs.declared.LineRefusal.{LineRefusal}
@@ -18,7 +23,7 @@ use Rattle.sheet.specs.declared.reader.Reader.{Reader}
 use Rattle.sheet.specs.declared.reader.Word.{Word}
 use Rattle.sheet.specs.declared.reader.Word.the-variants.{Number, Drain, Letter}
 use Rattle.sheet.specs.Parts.{Raw, parts, ahead, lines}
-use Rattle.sheet.specs.Form.{Fine, Capped, FirstBad}
+use Rattle.sheet.specs.Form.{PlainTo, BadByte, NoLetter, BadWord, line-checks, Fine, Capped, FirstBad}
 use Rattle.sheet.specs.Letters.{letter, Head, Slot, slots, Misfit, Value, Says, Say, kind, said}
 
 -- the line as it stands
@@ -80,6 +85,12 @@ abbrev pub NextWord : Reader → Reader → Result Word ℕ → Type 0
 NextWord r q (Ok w) = WordTaken r q w
 NextWord r q (Err x) = NoWord r x
 
+-- a word as short as a number, with no leading 0 but in one byte
+pub record Short (w : List ℕ) : Type 0 where
+  pub some : 0 < length w
+  pub short : length w ≤ 13
+  pub plain : getD w 0 0 ≡ 48 → length w ≡ 1
+
 -- the next word was taken, and says e
 pub record Took (r q : Reader) (e : Value) : Type 0 where
   pub word : List ℕ
@@ -119,7 +130,31 @@ Few (Some rest) n = length (rest .now) ≤ n
 -- a line taken apart as its letter and the rest; or its first word is no letter
 abbrev pub Apart : List ℕ → Option (Kind × Option (RefT (List ℕ))) → Type 0
 Apart l (Some p) = Head l (p .0) (rest-words (p .1)) × Few (p .1) (length l)
-Apart l None = (k : Kind) (ws : List (List ℕ)) → Head l k ws → ⊥
+Apart l None = (p : Option Kind) → NoLetter p l
+
+-- a line is of good form behind the letter p, or refused
+abbrev pub Verdict : Option Kind → Raw → Result Line Refusal → Type 0
+Verdict p l (Ok x) = Fine p l x
+Verdict p l (Err e) = Refused (line-checks p l) Sheet e
+
+-- the letter out of order is refused, or else what the words say or where they fail
+abbrev pub LetterFirst : Bool → Result Line ℕ → Result Line Refusal → Type 0
+LetterFirst in-order said (Ok x) = (in-order ≡ true) × (said ≡ Ok x)
+LetterFirst in-order said (Err e) =
+    (e .part ≡ Sheet)
+    × (((in-order ≡ false) × (e .row ≡ row.Letter) × (e .place ≡ 1))
+       ⊎ ((in-order ≡ true) × (e .row ≡ row.Word) × (said ≡ Err (e .place))))
+
+-- the bytes of a line are all plain and byte 10 ends it, so that no byte of it is bad
+pub record AllPlain (l : Raw) : Type 0 where
+  pub plain : PlainTo (l .bytes) (length (l .bytes))
+  pub ended : l .ended ≡ true
+  pub silent : (c : ℕ) → BadByte l c → ⊥
+
+-- the words behind the letter k of a line say x, or fail at the column
+abbrev pub WordsSaid : Raw → Kind → List (List ℕ) → Result Line ℕ → Type 0
+WordsSaid l k ws (Ok x) = (kind x ≡ k) × Say ws (said x)
+WordsSaid l k ws (Err c) = BadWord l c
 
 -- the next line is of good form behind the letter p, and says x
 pub record LineSaid (r q : Reader) (p : Option Kind) (x : Line) : Type 0 where

@@ -6,10 +6,10 @@ ghost use Prim.Native.Nat.{ℕ, _≤_};
 ghost use lib.ListN.{length};
 ghost use Rattle.std.specs.declared.option.Option.the-variants.{Some, None};
 ghost use Rattle.std.specs.declared.result.Result.the-variants.{Ok, Err};
-ghost use Rattle.refusal.specs.Table.{Refused};
 ghost use Rattle.refusal.specs.declared.Part.the-variants.{Sheet};
-ghost use Rattle.sheet.specs.Reading.{raw, rest-words, Few, words-ahead};
-ghost use Rattle.sheet.specs.Form.{Plain, PlainTo, BadByte, Fine, line-checks};
+ghost use Rattle.sheet.specs.Letters.{Head};
+ghost use Rattle.sheet.specs.Reading.{raw, AllPlain, rest-words, Few, words-ahead, WordsSaid, LetterFirst, Verdict};
+ghost use Rattle.sheet.specs.Form.{Plain, BadByte};
 use super::Kind;
 use super::Line;
 use super::letters::apart;
@@ -36,7 +36,7 @@ fn is_plain(b: u8) -> bool
 // The column of the first byte that no line may hold, or where byte 10 is missing.
 fn bad_byte(line: RawLine) -> Option<usize>
     requires { ⌜ length (now (line .bytes)) ≤ 65536 ⌝ }
-    ensures { λ r. ⌜ elim r [ Some c ↦ BadByte (raw (line .entry)) c | None ↦ PlainTo (now (line .entry .bytes)) (length (now (line .entry .bytes))) × (line .entry .ended ≡ true) ] ⌝ }
+    ensures { λ r. ⌜ elim r [ Some c ↦ BadByte (raw (line .entry)) c | None ↦ AllPlain (raw (line .entry)) ] ⌝ }
 {
     for (i, b) in line.bytes.iter().enumerate() {
         if !is_plain(*b) {
@@ -65,7 +65,7 @@ impl<'a> Reader<'a> {
 // What a line says, behind the last letter; or the first of its rows that comes.
 pub fn read_line(last: Option<Kind>, line: RawLine) -> Result<Line, Refusal>
     requires { ⌜ length (now (line .bytes)) ≤ 65536 ⌝ ∗ ⌜ line .number ≤ 65537 ⌝ }
-    ensures { λ r. ⌜ elim r [ Ok x ↦ Fine last (raw (line .entry)) x | Err e ↦ Refused (line-checks last (raw (line .entry))) Sheet e ] ⌝ }
+    ensures { λ r. ⌜ Verdict last (raw (line .entry)) r ⌝ }
 {
     if let Some(column) = bad_byte(line) {
         return Err(refused(Row::Byte, column));
@@ -73,14 +73,30 @@ pub fn read_line(last: Option<Kind>, line: RawLine) -> Result<Line, Refusal>
     let Some((kind, rest)) = apart(line.bytes) else {
         return Err(refused(Row::Letter, 1));
     };
-    if !kind.may_follow(last) {
+    letter_first(kind.may_follow(last), said(line, kind, rest))
+}
+
+// A letter out of order is refused before the words behind it.
+fn letter_first(in_order: bool, said: Result<Line, usize>) -> Result<Line, Refusal>
+    ensures { λ r. ⌜ LetterFirst «in_order» said r ⌝ }
+{
+    if !in_order {
         return Err(refused(Row::Letter, 1));
     }
-    let mut words = Reader::behind_letter(rest, line.number);
-    match read_words(kind, &mut words) {
+    match said {
         Ok(x) => Ok(x),
         Err(column) => Err(refused(Row::Word, column)),
     }
+}
+
+// What the words behind a line's letter say, or the column where they fail.
+fn said(line: RawLine, kind: Kind, rest: Option<&[u8]>) -> Result<Line, usize>
+    requires head { ⌜ Head (now (line .bytes)) kind (rest-words rest) ⌝ }
+    requires few { ⌜ Few rest 65536 ⌝ ∗ ⌜ line .number ≤ 65537 ⌝ }
+    ensures { λ r. ⌜ WordsSaid (raw (line .entry)) kind (rest-words (rest .entry)) r ⌝ }
+{
+    let mut words = Reader::behind_letter(rest, line.number);
+    read_words(kind, &mut words)
 }
 
 // A refusal of the sheet.

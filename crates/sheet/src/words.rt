@@ -6,6 +6,7 @@ ghost use Rattle.std.specs.Reads.{value};
 ghost use Rattle.std.specs.declared.option.Option.the-variants.{Some, None};
 ghost use Rattle.std.specs.declared.result.Result.the-variants.{Ok, Err};
 ghost use Rattle.sheet.specs.Parts.{Number};
+ghost use Rattle.sheet.specs.Reading.{Short};
 ghost use Rattle.sheet.specs.Letters.{far, amount, end-value};
 ghost use Rattle.sheet.specs.Letters.{number as a-number};
 ghost use Rattle.sheet.specs.Reading.{Took, Fails, WordsRead};
@@ -23,6 +24,14 @@ fn decimal(word: &[u8]) -> Option<u64>
     if word.len() > 1 && word[0] == b'0' {
         return None;
     }
+    digits_value(word)
+}
+
+// The value of up to 13 digits; none where another byte stands among them.
+fn digits_value(word: &[u8]) -> Option<u64>
+    requires { ⌜ Short (now word) ⌝ }
+    ensures { λ r. ⌜ elim r [ Some n ↦ Number (now (word .entry)) × (n ≡ value 10 (now (word .entry))) | None ↦ (Number (now (word .entry)) → ⊥) ] ⌝ }
+{
     let mut n: u64 = 0;
     for b in word {
         let c = *b;

@@ -14,7 +14,7 @@ pub returns-in-Some : need.returns-in-Some
 returns-in-Some c = (head-alone (c .args .line .now) (c .in-Some .kind) (search needs) (search needs), tt)
 
 pub returns-in-None : need.returns-in-None
-returns-in-None c k ws h = let l = head-inverse (c .args .line .now) k ws h in search needs
+returns-in-None c p = record { none = λ k ws h may. let l = head-inverse (c .args .line .now) k ws h in search needs }
 
 pub returns-in-Some-kind-of : need.returns-in-Some-kind-of
 returns-in-Some-kind-of c =
@@ -23,7 +23,7 @@ returns-in-Some-kind-of c =
     (head-spaced l (c .in-Some-kind-of .kind) (search needs) (search needs) (search needs) ∙ ap (λ r. (letter (c .in-Some-kind-of .kind) ∷ []) ∷ parts 32 r) (sym rest), omega (arith, ap length rest, length-drop 2 l))
 
 pub returns-in-None-kind-of : need.returns-in-None-kind-of
-returns-in-None-kind-of c k ws h = let l = head-inverse (c .args .line .now) k ws h in search needs
+returns-in-None-kind-of c p = record { none = λ k ws h may. let l = head-inverse (c .args .line .now) k ws h in search needs }
 
 pub returns-in-rest : need.returns-in-rest
-returns-in-rest c k ws h = let l = head-inverse (c .args .line .now) k ws h in search needs
+returns-in-rest c p = record { none = λ k ws h may. let l = head-inverse (c .args .line .now) k ws h in search needs }

@@ -3,7 +3,7 @@ use borrow.Author.Needs.{needs}
 use mathlib.Core.Path.{_≡_}
 use lib.ListN.{length, getD}
 use Rattle.sheet.proofs.Decimals.{read-small, read-more, read-all}
-use Rattle.sheet.proofs.words.decimal.Needs as need
+use Rattle.sheet.proofs.words.digits_value.Needs as need
 
 pub mul-n : need.mul-n
 mul-n c = omega (arith, read-small (c .args .word .now) (c .loop-b .b-index) (c .loop-b .n) (c .loop-b .inv) (omega arith) (omega arith))
@@ -16,7 +16,5 @@ loop-b-again c = read-more (c .args .word .now) (c .loop-b .b-index) (c .loop-b 
 
 pub returns : need.returns
 returns c =
-    let s = c .args .word .now in
-    let plain : getD s 0 0 ≡ 48 → length s ≡ 1 =
-      elim (c .else-word-gt1 .came) [ need.else-word-gt1·by·then-word-gt1·else-word-eq48 w ↦ (λ e. absurd (w .if-word-eq48 .left e)) | need.else-word-gt1·by·else-word-gt1 w ↦ (λ e. omega arith) ] in
-    read-all s (c .loop-b .b-index) (c .loop-b .n) (c .loop-b .inv) (omega arith) (omega arith) (omega arith) plain
+    let short = c .pre in
+    read-all (c .args .word .now) (c .loop-b .b-index) (c .loop-b .n) (c .loop-b .inv) (omega arith) (short .some) (short .short) (short .plain)
