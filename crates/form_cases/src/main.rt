@@ -42,7 +42,17 @@ mod tests {
     fn refused(sheet: &[u8], line: usize, row: Row, place: u64) -> Result<(), Fail> {
         match check_form(sheet) {
             Ok(_) => Err(Fail::new("good")),
-            Err(f) => check_eq(f, LineRefusal { line, refusal: Refusal { row, place, part: Part::Sheet } }),
+            Err(f) => check_eq(
+                f,
+                LineRefusal {
+                    line,
+                    refusal: Refusal {
+                        row,
+                        place,
+                        part: Part::Sheet,
+                    },
+                },
+            ),
         }
     }
 
@@ -59,8 +69,22 @@ mod tests {
         let said = read_sheet(rt.alloc(), b"n 2\nl 0 * 3\nc 1 0 9999999999999\nk 0\nw\n")?;
         check(said.len() == 5)?;
         check_eq(said[0], Line::Sites { count: 2 })?;
-        check_eq(said[1], Line::Link { site: 0, end: End::Drain, links: 3 })?;
-        check_eq(said[2], Line::Cut { site: 1, end: End::Site(0), links: 9_999_999_999_999 })?;
+        check_eq(
+            said[1],
+            Line::Link {
+                site: 0,
+                end: End::Drain,
+                links: 3,
+            },
+        )?;
+        check_eq(
+            said[2],
+            Line::Cut {
+                site: 1,
+                end: End::Site(0),
+                links: 9_999_999_999_999,
+            },
+        )?;
         check_eq(said[3], Line::Ceiling { firings: 0 })?;
         check_eq(said[4], Line::Wave)
     }

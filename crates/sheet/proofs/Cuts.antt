@@ -52,16 +52,16 @@ ahead-taken stop s at e le within free stops =
     let here : ahead stop s at ≡ parts stop (drop at s) = cond-true (leb at (length s)) _ _ (le-leb at (length s) (omega arith)) in
     let step : at + (e - at) ≡ e = omega arith in
     elim (cases-lt e (length s)) [
-      inl more ↦
-        let cut : drop at s ≡ w ++ stop ∷ drop (e + 1) s =
+      | inl more ↦
+          let cut : drop at s ≡ w ++ stop ∷ drop (e + 1) s =
           sym (take-append-drop (e - at) (drop at s))
           ∙ ap (λ r. w ++ r) (drop-drop (e - at) at s ∙ ap (λ k. drop k s) step ∙ drop-more s e 0 more ∙ ap (λ b. b ∷ drop (e + 1) s) (stops more)) in
-        here ∙ ap (parts stop) cut ∙ parts-cut stop w (drop (e + 1) s) clear
-        ∙ ap (λ r. w ∷ r) (sym (cond-true (leb (e + 1) (length s)) _ _ (le-leb (e + 1) (length s) (omega arith))))
+          here ∙ ap (parts stop) cut ∙ parts-cut stop w (drop (e + 1) s) clear
+          ∙ ap (λ r. w ∷ r) (sym (cond-true (leb (e + 1) (length s)) _ _ (le-leb (e + 1) (length s) (omega arith))))
       | inr end ↦
-        let whole : drop at s ≡ w = sym (take-all (e - at) (drop at s) (omega (arith, length-drop at s))) in
-        here ∙ ap (parts stop) whole ∙ parts-last stop w clear
-        ∙ ap (λ r. w ∷ r) (sym (cond-false (leb (e + 1) (length s)) _ _ (lt-leb (e + 1) (length s) (omega arith))))
+          let whole : drop at s ≡ w = sym (take-all (e - at) (drop at s) (omega (arith, length-drop at s))) in
+          here ∙ ap (parts stop) whole ∙ parts-last stop w clear
+          ∙ ap (λ r. w ∷ r) (sym (cond-false (leb (e + 1) (length s)) _ _ (lt-leb (e + 1) (length s) (omega arith))))
     ]
 
 pub parts-some : (stop : ℕ) (xs : List ℕ) → (q : List ℕ) × (qs : List (List ℕ)) × (parts stop xs ≡ q ∷ qs)
@@ -69,8 +69,8 @@ unfolding parts fronted
 parts-some stop [] = ([], [], refl)
 parts-some stop (x ∷ xs) =
     cond-both (eqb x stop) _ _ (λ z. (q : List ℕ) × (qs : List (List ℕ)) × (z ≡ q ∷ qs))
-      (λ _. ([], parts stop xs, refl))
-      (λ _. let more = parts-some stop xs in (x ∷ more .0, more .1, ap (fronted x) (more .2)))
+    (λ _. ([], parts stop xs, refl))
+    (λ _. let more = parts-some stop xs in (x ∷ more .0, more .1, ap (fronted x) (more .2)))
 
 pub lines-none : (s : List ℕ) (at : ℕ) → length s ≤ at → lines (drop at s) ≡ []
 unfolding lines marked unended parts
@@ -87,17 +87,17 @@ unfolding lines marked
 line-taken s w at next lt within moved taken =
     let here : parts 10 (drop at s) ≡ w ∷ ahead 10 s next = sym (cond-true (leb at (length s)) _ _ (le-leb at (length s) (omega arith))) ∙ taken in
     elim (cases-lt (length s) next) [
-      inl past ↦
-        let last : ahead 10 s next ≡ [] = cond-false (leb next (length s)) _ _ (lt-leb next (length s) past) in
-        ap marked (here ∙ ap (λ r. w ∷ r) last) ∙ unended-some w (omega arith)
-        ∙ ap (λ b. record { bytes = w; ended = b } ∷ []) (sym (lt-leb next (length s) past))
-        ∙ ap (λ r. record { bytes = w; ended = leb next (length s) } ∷ r) (sym (lines-none s next (omega arith)))
+      | inl past ↦
+          let last : ahead 10 s next ≡ [] = cond-false (leb next (length s)) _ _ (lt-leb next (length s) past) in
+          ap marked (here ∙ ap (λ r. w ∷ r) last) ∙ unended-some w (omega arith)
+          ∙ ap (λ b. record { bytes = w; ended = b } ∷ []) (sym (lt-leb next (length s) past))
+          ∙ ap (λ r. record { bytes = w; ended = leb next (length s) } ∷ r) (sym (lines-none s next (omega arith)))
       | inr more ↦
-        let rest : ahead 10 s next ≡ parts 10 (drop next s) = cond-true (leb next (length s)) _ _ (le-leb next (length s) more) in
-        let some = parts-some 10 (drop next s) in
-        ap marked (here ∙ ap (λ r. w ∷ r) (rest ∙ some .2))
-        ∙ ap (λ r. record { bytes = w; ended = true } ∷ r) (ap marked (sym (some .2)))
-        ∙ ap (λ b. record { bytes = w; ended = b } ∷ lines (drop next s)) (sym (le-leb next (length s) more))
+          let rest : ahead 10 s next ≡ parts 10 (drop next s) = cond-true (leb next (length s)) _ _ (le-leb next (length s) more) in
+          let some = parts-some 10 (drop next s) in
+          ap marked (here ∙ ap (λ r. w ∷ r) (rest ∙ some .2))
+          ∙ ap (λ r. record { bytes = w; ended = true } ∷ r) (ap marked (sym (some .2)))
+          ∙ ap (λ b. record { bytes = w; ended = b } ∷ lines (drop next s)) (sym (le-leb next (length s) more))
     ]
 
 pub empty-is : (w : List ℕ) → length w < 1 → w ≡ []

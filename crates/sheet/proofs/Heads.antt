@@ -61,21 +61,21 @@ unfolding parts fronted
 head-inverse [] k ws h = let z : _≡_ {A = ℕ} 0 1 = cc in absurd (omega arith)
 head-inverse (a ∷ []) k ws h =
     elim (cases-eq a 32) [
-      inl e ↦ absurd (stopped a [] k ws e h)
+      | inl e ↦ absurd (stopped a [] k ws e h)
       | inr ne ↦ let first = sym (parts-other 32 a [] ne) ∙ h in record { first = sym (cc); then = inl refl }
     ]
 head-inverse (a ∷ b ∷ r) k ws h =
     elim (cases-eq a 32) [
-      inl e ↦ absurd (stopped a (b ∷ r) k ws e h)
+      | inl e ↦ absurd (stopped a (b ∷ r) k ws e h)
       | inr ne ↦ elim (cases-eq b 32) [
-          inl f ↦
+        | inl f ↦
             let first = sym (parts-other 32 a (b ∷ r) ne ∙ ap (λ y. fronted a (parts 32 (y ∷ r))) f ∙ ap (fronted a) (parts-stop 32 r)) ∙ h in
             record { first = sym (cc); then = inr (omega arith, f) }
-          | inr nf ↦
+        | inr nf ↦
             let some = parts-some 32 r in
             let first = sym (parts-other 32 a (b ∷ r) ne ∙ ap (fronted a) (parts-other 32 b r nf ∙ ap (fronted b) (some .2))) ∙ h in
             let z : _≡_ {A = ℕ} 0 1 = cc in absurd (omega arith)
-        ]
+      ]
     ]
 
 -- the letter of a byte

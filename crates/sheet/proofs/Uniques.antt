@@ -142,20 +142,25 @@ fits-all c x (far ∷ ts) (w ∷ ws) (v ∷ vs) u s (inr m) = fits-all (c + leng
 
 -- a line of good form passes its checks
 fine-passes : {p : Option Kind} {l : Raw} (x : Line) → Fine p l x → Passed (line-checks p l)
-fine-passes {p} {l} x f =
-    (silent-byte l (f .plain) (f .ended),
-     (silent-letter p l (kind x) (f .words) (f .head) (f .may),
-      ((λ c b.
-        let same = head-one (l .bytes) (b .letter) (kind x) (b .words) (f .words) (b .head) (f .head) in
-        fits-all 3 c (slots (kind x)) (f .words) (said x) (suits x) (f .says)
+fine-passes {p} {l} x f = (
+  silent-byte l (f .plain) (f .ended),
+  (
+    silent-letter p l (kind x) (f .words) (f .head) (f .may),
+    (
+      (λ c b.
+          let same = head-one (l .bytes) (b .letter) (kind x) (b .words) (f .words) (b .head) (f .head) in
+          fits-all 3 c (slots (kind x)) (f .words) (said x) (suits x) (f .says)
           (subst (λ ws. Misfit 3 (slots (kind x)) ws c) (same .1) (subst (λ k. Misfit 3 (slots k) (b .words) c) (same .0) (b .fails)))),
-       tt)))
+      tt,
+    ),
+  ),
+)
 
 -- each of a line's rows has one place
 bad-byte-one : {l : Raw} (c d : ℕ) → BadByte l c → BadByte l d → c ≡ d
 bad-byte-one {l} c d a b =
     elim (cases-order (a .place) (b .place)) [
-      inl e ↦ omega (arith, a .column, b .column)
+      | inl e ↦ omega (arith, a .column, b .column)
       | inr (inl lt) ↦ absurd (a .here (omega (arith, b .within)) (b .before (a .place) lt))
       | inr (inr gt) ↦ absurd (b .here (omega (arith, a .within)) (a .before (b .place) gt))
     ]
@@ -173,7 +178,7 @@ bad-word-one : {l : Raw} (c d : ℕ) → BadWord l c → BadWord l d → c ≡ d
 bad-word-one {l} c d a b =
     let same = head-one (l .bytes) (a .letter) (b .letter) (a .words) (b .words) (a .head) (b .head) in
     misfit-one 3 c d (slots (b .letter)) (b .words)
-      (subst (λ ws. Misfit 3 (slots (b .letter)) ws c) (same .1) (subst (λ k. Misfit 3 (slots k) (a .words) c) (same .0) (a .fails))) (b .fails)
+    (subst (λ ws. Misfit 3 (slots (b .letter)) ws c) (same .1) (subst (λ k. Misfit 3 (slots k) (a .words) c) (same .0) (a .fails))) (b .fails)
 
 line-single : (p : Option Kind) (l : Raw) → Single (line-checks p l)
 line-single p l = (bad-byte-one, ((λ c d a b. a .0 ∙ sym (b .0)), (bad-word-one, tt)))

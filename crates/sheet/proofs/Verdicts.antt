@@ -29,7 +29,7 @@ use Rattle.sheet.proofs.Heads.{head-one}
 pub silent-byte : (l : Raw) → PlainTo (l .bytes) (length (l .bytes)) → l .ended ≡ true → (c : ℕ) → BadByte l c → ⊥
 silent-byte l plain ended c bad =
     elim (cases-lt (bad .place) (length (l .bytes))) [
-      inl lt ↦ bad .here lt (plain (bad .place) lt)
+      | inl lt ↦ bad .here lt (plain (bad .place) lt)
       | inr ge ↦ both-ways (l .ended) (bad .end (omega (arith, bad .within))) ended
     ]
 

@@ -143,7 +143,7 @@ LetterFirst in-order said (Ok x) = (in-order ≡ true) × (said ≡ Ok x)
 LetterFirst in-order said (Err e) =
     (e .part ≡ Sheet)
     × (((in-order ≡ false) × (e .row ≡ row.Letter) × (e .place ≡ 1))
-       ⊎ ((in-order ≡ true) × (e .row ≡ row.Word) × (said ≡ Err (e .place))))
+    ⊎ ((in-order ≡ true) × (e .row ≡ row.Word) × (said ≡ Err (e .place))))
 
 -- the bytes of a line are all plain and byte 10 ends it, so that no byte of it is bad
 pub record AllPlain (l : Raw) : Type 0 where

@@ -31,13 +31,19 @@ fn next_said(reader: &mut Reader, last: Option<Kind>) -> Result<Option<Line>, Li
     let number = reader.line;
     let Some(line) = reader.next_line() else {
         if reached(last) < 8 {
-            return Err(LineRefusal { line: number, refusal: refused(Row::Letter, 1) });
+            return Err(LineRefusal {
+                line: number,
+                refusal: refused(Row::Letter, 1),
+            });
         }
         return Ok(None);
     };
     match read_line(last, line) {
         Ok(x) => Ok(Some(x)),
-        Err(refusal) => Err(LineRefusal { line: number, refusal }),
+        Err(refusal) => Err(LineRefusal {
+            line: number,
+            refusal,
+        }),
     }
 }
 
@@ -46,7 +52,10 @@ pub fn check_form(sheet: &[u8]) -> Result<usize, LineRefusal>
     ensures { λ r. ⌜ Checked (now (sheet .entry)) r ⌝ }
 {
     if sheet.len() > SIZE {
-        return Err(LineRefusal { line: 0, refusal: refused(Row::Limit, 0) });
+        return Err(LineRefusal {
+            line: 0,
+            refusal: refused(Row::Limit, 0),
+        });
     }
     let mut reader = Reader::over(sheet);
     let mut last = None;

@@ -33,7 +33,7 @@ fn kind_of(letter: char) -> Option<Kind>
 }
 
 // A line's letter and what stands behind the space after it; none where the first word is no known letter.
-pub fn apart(line: &[u8]) -> Option<(Kind, Option<&[u8]>)>
+pub(crate) fn apart(line: &[u8]) -> Option<(Kind, Option<&[u8]>)>
     ensures { λ r. ⌜ Apart (now (line .entry)) r ⌝ }
 {
     match line {
@@ -97,7 +97,7 @@ impl Kind {
     }
 
     // Whether the letter may stand right behind the last one, or at the start.
-    pub fn may_follow(self, last: Option<Kind>) -> bool
+    pub(crate) fn may_follow(self, last: Option<Kind>) -> bool
         ensures { λ r. ⌜ (r ≡ true → May last self) × (r ≡ false → May last self → ⊥) ⌝ }
     {
         let (from, to) = self.behind();
@@ -107,7 +107,7 @@ impl Kind {
 }
 
 // The stage that a sheet has come to with its last letter.
-pub fn reached(last: Option<Kind>) -> u8
+pub(crate) fn reached(last: Option<Kind>) -> u8
     ensures { λ r. ⌜ r ≡ reached last ⌝ }
 {
     match last {
@@ -222,7 +222,7 @@ fn read_resume(words: &mut Reader) -> Result<Line, usize>
 }
 
 // Hands the words behind a letter to that letter's reader.
-pub fn read_words(kind: Kind, words: &mut Reader) -> Result<Line, usize>
+pub(crate) fn read_words(kind: Kind, words: &mut Reader) -> Result<Line, usize>
     ensures { λ r. ⌜ LineRead kind (now (words .entry)) r ⌝ }
 {
     match kind {

@@ -12,11 +12,11 @@ mod words;
 pub use form::check_form;
 pub use form::form_is_decided;
 pub use form::read_sheet;
-pub use refused::LineRefusalDisplay;
 use refusal::Refusal;
 use refusal::RefusalDebug;
 use refusal::RefusalEq;
 use refusal::RefusalPartialEq;
+pub use refused::LineRefusalDisplay;
 
 // The letter that a line begins with.
 #[derive(Clone, Copy, PartialEq, Eq, Debug)]
@@ -85,12 +85,23 @@ impl Line {
         ensures { λ r. ⌜ r ≡ kind self ⌝ }
     {
         match self {
-            Line::Grid { rows: _, columns: _ } => Kind::Grid,
+            Line::Grid {
+                rows: _,
+                columns: _,
+            } => Kind::Grid,
             Line::Sites { count: _ } => Kind::Sites,
-            Line::Link { site: _, end: _, links: _ } => Kind::Link,
+            Line::Link {
+                site: _,
+                end: _,
+                links: _,
+            } => Kind::Link,
             Line::Earth { site: _ } => Kind::Earth,
             Line::Merge { from: _, into: _ } => Kind::Merge,
-            Line::Cut { site: _, end: _, links: _ } => Kind::Cut,
+            Line::Cut {
+                site: _,
+                end: _,
+                links: _,
+            } => Kind::Cut,
             Line::Height { site: _, grains: _ } => Kind::Height,
             Line::Ceiling { firings: _ } => Kind::Ceiling,
             Line::Drop { site: _, grains: _ } => Kind::Drop,

@@ -56,14 +56,24 @@ impl<'a> Reader<'a> {
         ensures { λ r. ⌜ (words-ahead r ≡ rest-words (rest .entry)) × (r .column ≡ 3) ⌝ }
     {
         match rest {
-            Some(bytes) => Reader { bytes, at: 0, line, column: 3 },
-            None => Reader { bytes: &[], at: 1, line, column: 3 },
+            Some(bytes) => Reader {
+                bytes,
+                at: 0,
+                line,
+                column: 3,
+            },
+            None => Reader {
+                bytes: &[],
+                at: 1,
+                line,
+                column: 3,
+            },
         }
     }
 }
 
 // What a line says, behind the last letter; or the first of its rows that comes.
-pub fn read_line(last: Option<Kind>, line: RawLine) -> Result<Line, Refusal>
+pub(crate) fn read_line(last: Option<Kind>, line: RawLine) -> Result<Line, Refusal>
     requires { ⌜ length (now (line .bytes)) ≤ 65536 ⌝ ∗ ⌜ line .number ≤ 65537 ⌝ }
     ensures { λ r. ⌜ Verdict last (raw (line .entry)) r ⌝ }
 {
@@ -100,8 +110,12 @@ fn said(line: RawLine, kind: Kind, rest: Option<&[u8]>) -> Result<Line, usize>
 }
 
 // A refusal of the sheet.
-pub fn refused(row: Row, place: usize) -> Refusal
+pub(crate) fn refused(row: Row, place: usize) -> Refusal
     ensures { λ r. ⌜ (r .row ≡ row) × (r .place ≡ place) × (r .part ≡ Sheet) ⌝ }
 {
-    Refusal { row, place: place as u64, part: Part::Sheet }
+    Refusal {
+        row,
+        place: place as u64,
+        part: Part::Sheet,
+    }
 }

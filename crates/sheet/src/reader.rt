@@ -5,11 +5,11 @@ ghost use lib.ListN.{length};
 mod steps;
 
 #[derive(Drop)]
-pub struct Reader<'a> {
-    pub bytes: &'a [u8],
-    pub at: usize,
-    pub line: usize,
-    pub column: usize,
+pub(crate) struct Reader<'a> {
+    pub(crate) bytes: &'a [u8],
+    pub(crate) at: usize,
+    pub(crate) line: usize,
+    pub(crate) column: usize,
     ghost few: { length (bytes .now) ≤ 65536 },
     ghost within: { at ≤ length (bytes .now) + 1 },
     ghost down: { line ≤ at + 65537 },
@@ -19,22 +19,22 @@ pub struct Reader<'a> {
 
 // A line as it stands in the sheet: its bytes, its number, and whether byte 10 ends it.
 #[derive(Clone, Copy)]
-pub struct RawLine<'a> {
-    pub bytes: &'a [u8],
-    pub number: usize,
-    pub ended: bool,
+pub(crate) struct RawLine<'a> {
+    pub(crate) bytes: &'a [u8],
+    pub(crate) number: usize,
+    pub(crate) ended: bool,
 }
 
 // Where a word begins.
 #[derive(Clone, Copy)]
-pub struct Place {
-    pub line: usize,
-    pub column: usize,
+pub(crate) struct Place {
+    pub(crate) line: usize,
+    pub(crate) column: usize,
 }
 
 // A word is a part of the sheet; its first byte says what it is to be.
 #[derive(Clone, Copy)]
-pub enum Word<'a> {
+pub(crate) enum Word<'a> {
     Number(&'a [u8], Place),
     Drain(&'a [u8], Place),
     Letter(&'a [u8], Place),

@@ -77,7 +77,7 @@ impl Reader<'_> {
         }
     }
     // Nothing where no word is left, or the column of the surplus one.
-    pub fn finish(&mut self) -> Result<(), usize>
+    pub(crate) fn finish(&mut self) -> Result<(), usize>
         ensures { λ r. ⌜ WordsRead (now (self .entry)) [] r (λ _. []) ⌝ }
     {
         if self.at > self.bytes.len() {
@@ -87,7 +87,7 @@ impl Reader<'_> {
     }
 
     // One number and the line's end, or the column where the words fail.
-    pub fn one(&mut self) -> Result<u64, usize>
+    pub(crate) fn one(&mut self) -> Result<u64, usize>
         ensures { λ r. ⌜ WordsRead (now (self .entry)) (a-number ∷ []) r (λ n. amount n ∷ []) ⌝ }
     {
         let n = self.number()?;
@@ -96,7 +96,7 @@ impl Reader<'_> {
     }
 
     // Two numbers and the line's end.
-    pub fn two(&mut self) -> Result<(u64, u64), usize>
+    pub(crate) fn two(&mut self) -> Result<(u64, u64), usize>
         ensures { λ r. ⌜ WordsRead (now (self .entry)) (a-number ∷ a-number ∷ []) r (λ p. amount (p .0) ∷ amount (p .1) ∷ []) ⌝ }
     {
         let a = self.number()?;
@@ -105,7 +105,7 @@ impl Reader<'_> {
     }
 
     // A site, a far end, a number of links and the line's end.
-    pub fn link(&mut self) -> Result<(u64, End, u64), usize>
+    pub(crate) fn link(&mut self) -> Result<(u64, End, u64), usize>
         ensures { λ r. ⌜ WordsRead (now (self .entry)) (a-number ∷ far ∷ a-number ∷ []) r (λ p. amount (p .0) ∷ end-value (p .1) ∷ amount (p .2) ∷ []) ⌝ }
     {
         let site = self.number()?;

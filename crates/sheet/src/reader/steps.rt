@@ -30,11 +30,16 @@ fn find(bytes: &[u8], from: usize, stop: u8) -> usize
 
 impl<'a> Reader<'a> {
     // A reader at the start of a sheet.
-    pub fn over(bytes: &'a [u8]) -> Reader<'a>
+    pub(crate) fn over(bytes: &'a [u8]) -> Reader<'a>
         requires { ⌜ length (now bytes) ≤ 65536 ⌝ }
         ensures { λ r. ⌜ (now (r .bytes) ≡ now (bytes .entry)) × (r .at ≡ 0) × (r .line ≡ 1) ⌝ }
     {
-        Reader { bytes, at: 0, line: 1, column: 1 }
+        Reader {
+            bytes,
+            at: 0,
+            line: 1,
+            column: 1,
+        }
     }
 
     // The bytes up to the next stop or the end; the cursor goes behind the stop.
@@ -50,7 +55,7 @@ impl<'a> Reader<'a> {
         &self.bytes[from..end]
     }
     // The next line, where one is left.
-    pub fn next_line(&mut self) -> Option<RawLine<'a>>
+    pub(crate) fn next_line(&mut self) -> Option<RawLine<'a>>
         ensures taken { λ r. ⌜ NextLine (now (self .entry)) (now (self .exit)) r ⌝ }
         ensures same { λ _. ⌜ now (now (self .exit) .bytes) ≡ now (now (self .entry) .bytes) ⌝ }
     {
@@ -61,17 +66,24 @@ impl<'a> Reader<'a> {
         let bytes = self.part(b'\n');
         self.line = number + 1;
         self.column = 1;
-        Some(RawLine { bytes, number, ended: self.at <= self.bytes.len() })
+        Some(RawLine {
+            bytes,
+            number,
+            ended: self.at <= self.bytes.len(),
+        })
     }
 
     // The next word, or the column where one is missing or empty.
-    pub fn word(&mut self) -> Result<Word<'a>, usize>
+    pub(crate) fn word(&mut self) -> Result<Word<'a>, usize>
         ensures taken { λ r. ⌜ NextWord (now (self .entry)) (now (self .exit)) r ⌝ }
     {
         if self.at > self.bytes.len() {
             return Err(self.column - 1);
         }
-        let place = Place { line: self.line, column: self.column };
+        let place = Place {
+            line: self.line,
+            column: self.column,
+        };
         let part = self.part(b' ');
         self.column += part.len() + 1;
         match part {

@@ -18,7 +18,7 @@ loop-said-again c =
     let items : vec-items (c .push .last .self) ≡ vec-items (c .loop-said .said) ++ x ∷ [] = pushed {r = c .push .result} (x ∷ []) refl (c .in-Continue-push .was tt) (c .push .ensures .items) in
     let more = come-more x (c .loop-said .inv) (said-some (c .in-Some .is) (next .said)) (next .same) in
     subst (λ (xs : List Line). Come s q (Some (c .kind .result)) xs) (sym items)
-      (subst (λ (k : Kind). Come s q (Some k) (vec-items (c .loop-said .said) ++ x ∷ [])) (sym (c .kind .ensures)) more)
+    (subst (λ (k : Kind). Come s q (Some k) (vec-items (c .loop-said .said) ++ x ∷ [])) (sym (c .kind .ensures)) more)
 
 pub returns : need.returns
 returns c =

@@ -23,7 +23,7 @@ returns c =
     record {
       taken = record {
         ahead = subst (λ (t : List ℕ). lines (drop at s) ≡ record { bytes = w; ended = leb next (length t) } ∷ lines (drop next t)) (sym same)
-          (line-taken s w at next (omega arith) (omega arith) (c .part-bytes .ensures .moved) (c .part-bytes .ensures .taken));
+            (line-taken s w at next (omega arith) (omega arith) (c .part-bytes .ensures .moved) (c .part-bytes .ensures .taken));
         number = refl;
         line = refl;
         further = omega arith;
