@@ -4,6 +4,8 @@ ghost use mathlib.Core.Bool.{true};
 ghost use Prim.Native.Nat.{ℕ};
 ghost use Rattle.board.specs.Shape.{Shape, Sound, NextIs, deg, Follows, Degrees};
 
+pub mod grid;
+
 // A board: sites, links between them and links to the drain. A question changes nothing, and off the board the
 // answers are 0, 0 and none.
 pub trait Board {
