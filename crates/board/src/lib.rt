@@ -5,6 +5,9 @@ ghost use Prim.Native.Nat.{ℕ};
 ghost use Rattle.board.specs.Shape.{Shape, Sound, NextIs, deg, Follows, Degrees};
 
 pub mod grid;
+pub mod link;
+
+pub use link::End;
 
 // A board: sites, links between them and links to the drain. A question changes nothing, and off the board the
 // answers are 0, 0 and none.
