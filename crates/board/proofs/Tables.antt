@@ -17,7 +17,7 @@ use Rattle.board.proofs.Sums.{sum-suc, sum-same, sum-none, sum-plus, sum-swap,
 use Rattle.board.specs.declared.link.End.{End}
 use Rattle.board.specs.declared.link.End.the-variants.{Site, Drain}
 use Rattle.board.specs.declared.link.Link.{Link}
-use Rattle.board.specs.Links.{no-link, joins, drains, between, drained, far, weight, Fit, fits, Fits-all, m-of, s-of, weights, alike, Low}
+use Rattle.board.specs.Links.{no-link, joins, drains, between, drained, far, weight, Fit, fits, Fits-all, m-of, s-of, weights, alike, Low, Misfit}
 
 -- the test says the fact
 pub fits-true : (n a : ℕ) (b : End) → fits n a b ≡ true → Fit n a b
@@ -294,3 +294,13 @@ pub low-set : (xs : List Link) (n i : ℕ) (l : Link) → i < length xs → l .c
 low-set xs n i l on small low k h = elim (cases-eq k i) [
     inl p ↦ omega (arith, ap (λ (x : Link). x .count) (ap (λ j. getD (set xs i l) j no-link) p ∙ getD-set-same xs i l no-link on))
   | inr p ↦ omega (arith, ap (λ (x : Link). x .count) (getD-set-other xs i k l no-link p), low k h p) ]
+
+-- ends that fit are not refused
+pub fit-quiet : (n a : ℕ) (b : End) → Fit n a b → (p : ℕ) → Misfit n a b p → ⊥
+fit-quiet n a (Site y) h p (inl m) = omega arith
+fit-quiet n a (Site y) h p (inr m) = elim (m .2) [ inl l ↦ omega arith | inr l ↦ h .2 (sym l) ]
+fit-quiet n a Drain h p m = omega arith
+
+pub weight-le : (b : End) (k : ℕ) → k ≤ weight b k
+weight-le (Site y) k = omega arith
+weight-le Drain k = omega arith

@@ -6,6 +6,7 @@ ghost use Rattle.board.specs.Shape.{Shape, Sound, NextIs, deg, Follows, Degree
 
 pub mod grid;
 pub mod link;
+pub mod list;
 
 pub use link::End;
 
