@@ -9,6 +9,7 @@ pub mod grid;
 mod layer;
 pub mod link;
 pub mod list;
+pub mod merge;
 
 pub use link::End;
 
