@@ -4,20 +4,20 @@ use mathlib.Core.Logic.{_⊎_, inl, inr}
 use mathlib.Core.Bool.{Bool, true, false, cond, _&&_, _||_, not}
 use mathlib.Core.List.{List}
 use Prim.Native.Nat.{ℕ, zero, suc, _+_, _-_, _≤_, _<_}
-use native.Mathlib.Nat.{add-comm}
+use native.Mathlib.Numerals.{add-one}
 use native.Mathlib.Omega.{arith}
 use lib.Dec.{eqb, ltb}
 use lib.ListN.{length, getD, set}
 use lib.Seq.{getD-set-same, getD-set-other}
 use Rattle.std.specs.declared.option.Option.{Option}
 use Rattle.std.specs.declared.option.Option.the-variants.{Some, None}
-use Rattle.std.proofs.shelf.Tests.{cases-lt, cases-eq, cond-true, cond-false, and-parts, not-true, ltb-true, eqb-true, eqb-false, eq-eqb, ne-eqb, and-from, lt-ltb, not-from-false, or-cases, false≢true}
+use Rattle.std.proofs.shelf.Tests.{cases-lt, cases-eq, cases-bool, and-left, and-right, cond-true, cond-false, and-parts, not-true, ltb-true, eqb-true, eqb-false, eq-eqb, ne-eqb, and-from, lt-ltb, not-from-false, or-cases, false≢true}
 use Rattle.board.specs.Shape.{Shape, sum-below}
 use Rattle.board.proofs.Sums.{sum-suc, sum-same, sum-none, sum-plus, sum-swap, sum-at, sum-more, sum-const, sum-term}
 use Rattle.board.specs.declared.link.End.{End}
 use Rattle.board.specs.declared.link.End.the-variants.{Site, Drain}
 use Rattle.board.specs.declared.link.Link.{Link}
-use Rattle.board.specs.Links.{no-link, joins, drains, between, drained, far, weight, Fit, fits, Fits-all, m-of, s-of, weights, alike, Low, Misfit}
+use Rattle.board.specs.Links.{no-link, joins, drains, between, drained, far, weight, Fit, fits, Fits-all, m-of, s-of, weights, alike, Low, Misfit, all-fit}
 
 -- the test says the fact
 pub fits-true : (n a : ℕ) (b : End) → fits n a b ≡ true → Fit n a b
@@ -304,3 +304,50 @@ fit-quiet n a Drain h p m = omega arith
 pub weight-le : (b : End) (k : ℕ) → k ≤ weight b k
 weight-le (Site y) k = omega arith
 weight-le Drain k = omega arith
+
+pub misfit-fits : (n a : ℕ) (b : End) (p : ℕ) → Misfit n a b p → fits n a b ≡ false
+misfit-fits n a b p m = elim (cases-bool (fits n a b)) [ inl t ↦ absurd (fit-quiet n a b (fits-true n a b t) p m) | inr f ↦ f ]
+
+-- all entries on a board
+pub all-fit-none : (n : ℕ) (xs : List Link) → all-fit n xs 0 ≡ true
+unfolding all-fit
+all-fit-none n xs = refl
+
+pub all-fit-more : (n k : ℕ) (xs : List Link) → all-fit n xs (k + 1) ≡ (all-fit n xs k && fits n (getD xs k no-link .site) (getD xs k no-link .other))
+unfolding all-fit
+all-fit-more n k xs = rw add-one refl
+
+pub all-fit-bad : (n i k : ℕ) (xs : List Link) → i < k → fits n (getD xs i no-link .site) (getD xs i no-link .other) ≡ false → all-fit n xs k ≡ false
+unfolding all-fit
+all-fit-bad n i zero xs h e = absurd (omega arith)
+all-fit-bad n i (suc k) xs h e = elim (cases-eq i k) [
+    inl p ↦ and-right (all-fit n xs k) (fits n (getD xs k no-link .site) (getD xs k no-link .other)) (ap (λ j. fits n (getD xs j no-link .site) (getD xs j no-link .other)) (sym p) ∙ e)
+  | inr p ↦ and-left (all-fit n xs k) (fits n (getD xs k no-link .site) (getD xs k no-link .other)) (all-fit-bad n i k xs (omega arith) e) ]
+
+pub all-fit-same : (n k : ℕ) (xs ys : List Link)
+    → ((i : ℕ) → i < k → fits n (getD ys i no-link .site) (getD ys i no-link .other) ≡ fits n (getD xs i no-link .site) (getD xs i no-link .other))
+    → all-fit n ys k ≡ all-fit n xs k
+unfolding all-fit
+all-fit-same n zero xs ys e = refl
+all-fit-same n (suc k) xs ys e =
+    ap (λ t. t && fits n (getD ys k no-link .site) (getD ys k no-link .other)) (all-fit-same n k xs ys (λ i h. e i (omega arith)))
+      ∙ ap (λ t. all-fit n xs k && t) (e k (omega arith))
+
+-- a new entry
+pub all-fit-new : (n k : ℕ) (xs : List Link) (l : Link) → k < length xs
+    → all-fit n (set xs k l) (k + 1) ≡ (all-fit n xs k && fits n (l .site) (l .other))
+all-fit-new n k xs l h =
+    all-fit-more n k (set xs k l)
+      ∙ ap (λ t. t && fits n (getD (set xs k l) k no-link .site) (getD (set xs k l) k no-link .other))
+          (all-fit-same n k xs (set xs k l) (λ i less. ap (λ (x : Link). fits n (x .site) (x .other)) (getD-set-other xs k i l no-link (omega arith))))
+      ∙ ap (λ (x : Link). all-fit n xs k && fits n (x .site) (x .other)) (getD-set-same xs k l no-link h)
+
+-- an entry changed in its number alone
+pub all-fit-raised : (n k i c : ℕ) (xs : List Link) → i < length xs
+    → all-fit n (set xs i (record { site = getD xs i no-link .site; other = getD xs i no-link .other; count = c })) k ≡ all-fit n xs k
+all-fit-raised n k i c xs h =
+    let l : Link = record { site = getD xs i no-link .site; other = getD xs i no-link .other; count = c } in
+    all-fit-same n k xs (set xs i l) (λ j less. elim (cases-eq j i) [
+        inl p ↦ ap (λ (x : Link). fits n (x .site) (x .other)) (ap (λ y. getD (set xs i l) y no-link) p ∙ getD-set-same xs i l no-link h)
+                  ∙ ap (λ y. fits n (getD xs y no-link .site) (getD xs y no-link .other)) (sym p)
+      | inr p ↦ ap (λ (x : Link). fits n (x .site) (x .other)) (getD-set-other xs i j l no-link p) ])
