@@ -1,0 +1,63 @@
+// Piles of layers on a board, built by the calls of `board` and known from their contracts alone.
+ghost use mathlib.Core.Path.{_≡_};
+ghost use Prim.Native.Nat.{ℕ};
+ghost use Rattle.std.specs.declared.option.Option.the-variants.{None as Nothing};
+ghost use Rattle.std.specs.declared.result.Result.the-variants.{Ok, Err};
+ghost use Rattle.refusal.specs.declared.Part.the-variants as part;
+ghost use Rattle.refusal.specs.Table.{Passed, Refused};
+ghost use Rattle.board.specs.Earths.{earth-of, earthed, earth-checks};
+ghost use Rattle.board.specs.Merges.{merge-of, merged, merge-checks};
+ghost use Rattle.board.specs.Cuts.{cut-of};
+ghost use Rattle.pile.specs.Piles.{cut-once, first-cut-checks, Piled};
+use board::Board;
+use board::End;
+use board::cut::Cut;
+use board::earth::Earth;
+use board::earth::EarthBoard;
+use board::link::Link;
+use board::merge::Merge;
+use board::merge::MergeBoard;
+use board::merge::Pair;
+use refusal::Refusal;
+
+// The board with `w` earthed.
+pub fn with_earth<B: Board + Drop>(board: B, w: usize) -> Result<Earth<B>, Refusal>
+    ensures { λ r. ⌜ elim r [ Ok e ↦ Passed (earth-checks (B·Board .shape board) Nothing w) × (earth-of (B·Board .shape (e .below)) (e .site) ≡ earthed w (B·Board .shape board)) | Err e ↦ Refused (earth-checks (B·Board .shape board) Nothing w) part.Earth e ] ⌝ }
+{
+    let mut earth = Earth::idle(board);
+    match earth.earth(w) {
+        Ok(()) => Ok(earth),
+        Err(refusal) => Err(refusal),
+    }
+}
+
+// The board with `a` merged into `b`.
+pub fn with_merge<B: Board + Drop>(board: B, a: usize, b: usize) -> Result<Merge<B>, Refusal>
+    ensures { λ r. ⌜ elim r [ Ok e ↦ Passed (merge-checks (B·Board .shape board) Nothing a b) × (merge-of (B·Board .shape (e .below)) (e .pair) ≡ merged a b (B·Board .shape board)) | Err e ↦ Refused (merge-checks (B·Board .shape board) Nothing a b) part.Merge e ] ⌝ }
+{
+    let mut merge = Merge::idle(board);
+    match merge.merge(a, b) {
+        Ok(()) => Ok(merge),
+        Err(refusal) => Err(refusal),
+    }
+}
+
+// The board with `k` links of `a` and `b` cut.
+pub fn with_cut<B: Board + Drop>(board: B, a: usize, b: End, k: u64) -> Result<Cut<B>, Refusal>
+    ensures { λ r. ⌜ elim r [ Ok e ↦ Passed (first-cut-checks (B·Board .shape board) a b k) × (cut-of (B·Board .shape (e .below)) (e .held) (e .entries) ≡ cut-once (B·Board .shape board) a b k) | Err e ↦ Refused (first-cut-checks (B·Board .shape board) a b k) part.Cut e ] ⌝ }
+{
+    let mut cut = Cut::idle(board);
+    match cut.cut(a, b, k) {
+        Ok(()) => Ok(cut),
+        Err(refusal) => Err(refusal),
+    }
+}
+
+// Earth lowest, merge on it, cut on top.
+pub fn pile_up<B: Board + Drop>(board: B, w: usize, pair: Pair, link: Link) -> Result<Cut<Merge<Earth<B>>>, Refusal>
+    ensures { λ r. ⌜ Piled (B·Board .shape board) w pair link (λ e. cut-of (merge-of (earth-of (B·Board .shape (e .below .below .below)) (e .below .below .site)) (e .below .pair)) (e .held) (e .entries)) r ⌝ }
+{
+    let earth = with_earth(board, w)?;
+    let merge = with_merge(earth, pair.a, pair.b)?;
+    with_cut(merge, link.site, link.other, link.count as u64)
+}
