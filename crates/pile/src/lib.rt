@@ -9,6 +9,8 @@ ghost use Rattle.board.specs.Earths.{earth-of, earthed, earth-checks};
 ghost use Rattle.board.specs.Merges.{merge-of, merged, merge-checks};
 ghost use Rattle.board.specs.Cuts.{cut-of};
 ghost use Rattle.pile.specs.Piles.{cut-once, first-cut-checks, Piled};
+pub mod worked;
+
 use board::Board;
 use board::End;
 use board::cut::Cut;
