@@ -18,11 +18,12 @@ use Rattle.board.specs.declared.link.End.{End}
 use Rattle.board.specs.declared.link.End.the-variants.{Site, Drain}
 use Rattle.board.specs.declared.merge.Pair.{Pair}
 use Rattle.board.specs.Links.{m-of, s-of, all-fit}
+use Rattle.board.specs.Grids.{grid-of, grid-checks}
 use Rattle.board.specs.Earths.{earth-of, earthed, earth-checks, Earthing}
 use Rattle.board.specs.Merges.{merge-of, merged, merge-checks, Merging}
 use Rattle.board.specs.Cuts.{cut-of, cut-by, lessened, standing, cut-checks, Cutting}
 use Rattle.board.proofs.Tables.{m-of-none, s-of-none, all-fit-none}
-use Rattle.pile.specs.Piles.{cut-once, first-cut-checks, Piled}
+use Rattle.pile.specs.Piles.{cut-once, first-cut-checks, Piled, On-grid}
 
 pub fresh-earth : (x y : Shape) (o o1 : Option ℕ) (w : ℕ) (r : Result Unit Refusal) → x ≡ y → o ≡ None → Earthing x o o1 w r → Earthing y None o1 w r
 fresh-earth x y o o1 w r p q h =
@@ -82,3 +83,12 @@ third x y z w p l shape (Err e) ez ey pe pm h =
     let P : Shape → Type 0 = λ t. Passed (merge-checks t None (p .a) (p .b)) in
     let Q : Shape → Type 0 = λ t. Refused (first-cut-checks t (l .site) (l .other) (l .count)) part.Cut e in
     inr (inr (pe, subst P ez pm, subst Q (ey ∙ ap (merged (p .a) (p .b)) ez) h))
+
+-- the pile, on a board that is known by another name
+pub renamed : {C : Type 0} (x y : Shape) (w : ℕ) (p : Pair) (l : Link) (shape : C → Shape) (r : Result C Refusal) → x ≡ y → Piled x w p l shape r → Piled y w p l shape r
+renamed x y w p l shape r e h = let P : Shape → Type 0 = λ t. Piled t w p l shape r in subst P e h
+
+pub gridded : {C : Type 0} (rows columns w : ℕ) (p : Pair) (l : Link) (shape : C → Shape) (r : Result C Refusal) → Passed (grid-checks rows columns)
+    → Piled (grid-of rows columns) w p l shape r → On-grid rows columns w p l shape r
+gridded rows columns w p l shape (Ok c) ok h = (ok, h)
+gridded rows columns w p l shape (Err e) ok h = inr (ok, h)

@@ -17,7 +17,10 @@ use Rattle.board.specs.declared.merge.Pair.{Pair}
 use Rattle.board.specs.Links.{Misfit}
 use Rattle.board.specs.Earths.{earthed, earth-checks}
 use Rattle.board.specs.Merges.{merged, merge-checks}
+use Rattle.board.specs.declared.link.End.the-variants.{Site, Drain}
 use Rattle.board.specs.Cuts.{cut-by, standing}
+use Rattle.board.specs.Grids.{grid-of, grid-checks}
+use Rattle.board.specs.Lists.{bare, linked}
 
 -- k links of a and b taken away
 abbrev pub cut-once : Shape → ℕ → End → ℕ → Shape
@@ -39,3 +42,16 @@ Piled x w p l shape (Err e) =
   ⊎ ((Passed (earth-checks x None w) × Refused (merge-checks (earthed w x) None (p .a) (p .b)) part.Merge e)
   ⊎ (Passed (earth-checks x None w) × Passed (merge-checks (earthed w x) None (p .a) (p .b))
       × Refused (first-cut-checks (merged (p .a) (p .b) (earthed w x)) (l .site) (l .other) (l .count)) part.Cut e))
+
+-- the same on a grid, which may refuse first
+abbrev pub On-grid : {C : Type 0} → ℕ → ℕ → ℕ → Pair → Link → (C → Shape) → Result C Refusal → Type 0
+On-grid rows columns w p l shape (Ok c) = Passed (grid-checks rows columns) × Piled (grid-of rows columns) w p l shape (Ok c)
+On-grid rows columns w p l shape (Err e) =
+    Refused (grid-checks rows columns) part.Board e ⊎ (Passed (grid-checks rows columns) × Piled (grid-of rows columns) w p l shape (Err e))
+
+-- three sites in a row, two links to each neighbour and one from each end to the drain
+abbrev pub row-of-three : Shape
+row-of-three =
+    linked (linked (linked (linked (bare 3)
+      (record { site = 0; other = Site 1; count = 2 })) (record { site = 2; other = Site 1; count = 2 }))
+      (record { site = 0; other = Drain; count = 1 })) (record { site = 2; other = Drain; count = 1 })

@@ -8,7 +8,9 @@ ghost use Rattle.refusal.specs.Table.{Passed, Refused};
 ghost use Rattle.board.specs.Earths.{earth-of, earthed, earth-checks};
 ghost use Rattle.board.specs.Merges.{merge-of, merged, merge-checks};
 ghost use Rattle.board.specs.Cuts.{cut-of};
-ghost use Rattle.pile.specs.Piles.{cut-once, first-cut-checks, Piled};
+ghost use Rattle.board.specs.Grids.{grid-of};
+ghost use Rattle.board.specs.Adding.{shape-of};
+ghost use Rattle.pile.specs.Piles.{cut-once, first-cut-checks, Piled, On-grid, row-of-three};
 pub mod worked;
 
 use board::Board;
@@ -16,7 +18,11 @@ use board::End;
 use board::cut::Cut;
 use board::earth::Earth;
 use board::earth::EarthBoard;
+use board::grid::Grid;
+use board::grid::GridBoard;
 use board::link::Link;
+use board::list::LinkList;
+use board::list::ListBoard;
 use board::merge::Merge;
 use board::merge::MergeBoard;
 use board::merge::Pair;
@@ -62,4 +68,32 @@ pub fn pile_up<B: Board + Drop>(board: B, w: usize, pair: Pair, link: Link) -> R
     let earth = with_earth(board, w)?;
     let merge = with_merge(earth, pair.a, pair.b)?;
     with_cut(merge, link.site, link.other, link.count as u64)
+}
+
+// The pile on a grid.
+pub fn on_grid(rows: usize, columns: usize, w: usize, pair: Pair, link: Link) -> Result<Cut<Merge<Earth<Grid>>>, Refusal>
+    ensures { λ r. ⌜ On-grid rows columns w pair link (λ e. cut-of (merge-of (earth-of (grid-of (e .below .below .below .rows) (e .below .below .below .columns)) (e .below .below .site)) (e .below .pair)) (e .held) (e .entries)) r ⌝ }
+{
+    let grid = Grid::new(rows, columns)?;
+    pile_up(grid, w, pair, link)
+}
+
+// A list of three sites in a row, two links to each neighbour and one from each end to the drain.
+pub fn row_of_three() -> Result<LinkList, Refusal>
+    ensures { λ r. ⌜ elim r [ Ok x ↦ shape-of x ≡ row-of-three | Err e ↦ ⊥ ] ⌝ }
+{
+    let mut list = LinkList::new(3)?;
+    list.add(0, End::Site(1), 2)?;
+    list.add(2, End::Site(1), 2)?;
+    list.add(0, End::Drain, 1)?;
+    list.add(2, End::Drain, 1)?;
+    Ok(list)
+}
+
+// The pile on that list.
+pub fn on_list(w: usize, pair: Pair, link: Link) -> Result<Cut<Merge<Earth<LinkList>>>, Refusal>
+    ensures { λ r. ⌜ Piled row-of-three w pair link (λ e. cut-of (merge-of (earth-of (shape-of (e .below .below .below)) (e .below .below .site)) (e .below .pair)) (e .held) (e .entries)) r ⌝ }
+{
+    let list = row_of_three()?;
+    pile_up(list, w, pair, link)
 }
