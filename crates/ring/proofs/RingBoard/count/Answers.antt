@@ -1,0 +1,7 @@
+use mathlib.Core.Path.{refl}
+use Rattle.ring.specs.Rings.{ring-of}
+use Rattle.ring.proofs.RingBoard.count.Needs as need
+
+pub returns : need.returns
+unfolding ring-of
+returns c = refl
