@@ -12,7 +12,7 @@ use Rattle.board.specs.Shape.{Shape, Sound, sum-below, row-total, all-links}
 use Rattle.board.specs.declared.link.Link.{Link}
 use Rattle.board.specs.declared.link.End.{End}
 use Rattle.board.specs.declared.link.End.the-variants.{Site, Drain}
-use Rattle.board.specs.Links.{no-link, joins, drains, between, drained, alike, m-of, s-of, all-fit, fits, Fit}
+use Rattle.board.specs.Links.{no-link, joins, drains, between, to-drain, alike, m-of, s-of, all-fit, fits, Fit}
 use Rattle.board.specs.Cuts.{lessened, cut-by, cut-at, cut-of, standing, raised}
 use Rattle.board.proofs.Sums.{sum-up}
 use Rattle.board.proofs.Walks.{m-le, s-le}
@@ -27,9 +27,12 @@ lessened-sound x ok n xs = record {
   off = λ u v h. omega (arith, ok .off u v h);
   off-drain = λ v h. omega (arith, ok .off-drain v h);
   total =
-    omega (arith, ok .total,
-      sum-up (x .sites) (row-total (lessened x n xs)) (row-total x) (λ u h. sum-up (x .sites) (λ v. x .m u v - m-of xs n u v) (x .m u) (λ v l. omega arith)),
-      sum-up (x .sites) (λ v. x .s v - s-of xs n v) (x .s) (λ v l. omega arith));
+      omega (
+        arith,
+        ok .total,
+        sum-up (x .sites) (row-total (lessened x n xs)) (row-total x) (λ u h. sum-up (x .sites) (λ v. x .m u v - m-of xs n u v) (x .m u) (λ v l. omega arith)),
+        sum-up (x .sites) (λ v. x .s v - s-of xs n v) (x .s) (λ v l. omega arith),
+      );
 }
 
 -- whatever the entries are
@@ -60,12 +63,12 @@ cut-le x n xs u v = go (all-fit (x .sites) xs n) where
 
 -- one more cut
 more : (x : Shape) (n n1 : ℕ) (xs ys : List Link) (l : Link)
-    → ((u v : ℕ) → m-of ys n1 u v ≡ m-of xs n u v + between l u v) → ((v : ℕ) → s-of ys n1 v ≡ s-of xs n v + drained l v)
+    → ((u v : ℕ) → m-of ys n1 u v ≡ m-of xs n u v + between l u v) → ((v : ℕ) → s-of ys n1 v ≡ s-of xs n v + to-drain l v)
     → lessened x n1 ys ≡ cut-by (lessened x n xs) l
 unfolding cut-by
 more x n n1 xs ys l em es =
     let p : (λ u v. x .m u v - m-of ys n1 u v) ≡ (λ u v. (x .m u v - m-of xs n u v) - between l u v) = fun-ext (λ u. fun-ext (λ v. omega (arith, em u v))) in
-    let q : (λ v. x .s v - s-of ys n1 v) ≡ (λ v. (x .s v - s-of xs n v) - drained l v) = fun-ext (λ v. omega (arith, es v)) in
+    let q : (λ v. x .s v - s-of ys n1 v) ≡ (λ v. (x .s v - s-of xs n v) - to-drain l v) = fun-ext (λ v. omega (arith, es v)) in
     λ i. record { sites = x .sites; m = p i; s = q i }
 
 -- the layer after a cut
@@ -77,8 +80,8 @@ module _ (x : Shape) (n : ℕ) (xs : List Link) (a : ℕ) (b : End) (k : ℕ) (f
     pub new-cut : all-fit (x .sites) xs n ≡ true → cut-of x (n + 1) (set xs n (record { site = a; other = b; count = k })) ≡ cut-by (cut-of x n xs) (record { site = a; other = b; count = k })
     new-cut e =
         cut-takes x (n + 1) _ (new-stands ∙ and-from _ _ e (fit-fits (x .sites) a b fit))
-          ∙ more x n (n + 1) xs _ (record { site = a; other = b; count = k }) (grow-m xs n (record { site = a; other = b; count = k }) room) (grow-s xs n (record { site = a; other = b; count = k }) room)
-          ∙ ap (λ y. cut-by y (record { site = a; other = b; count = k })) (sym (cut-takes x n xs e))
+        ∙ more x n (n + 1) xs _ (record { site = a; other = b; count = k }) (grow-m xs n (record { site = a; other = b; count = k }) room) (grow-s xs n (record { site = a; other = b; count = k }) room)
+        ∙ ap (λ y. cut-by y (record { site = a; other = b; count = k })) (sym (cut-takes x n xs e))
 
     pub new-idle : all-fit (x .sites) xs n ≡ false → cut-of x (n + 1) (set xs n (record { site = a; other = b; count = k })) ≡ x
     new-idle e = cut-idle x (n + 1) _ (new-stands ∙ and-left _ _ e)
@@ -90,8 +93,8 @@ module _ (x : Shape) (n : ℕ) (xs : List Link) (a : ℕ) (b : End) (k : ℕ) (f
     pub raised-cut : all-fit (x .sites) xs n ≡ true → cut-of x n (set xs i (raised (getD xs i no-link) k)) ≡ cut-by (cut-of x n xs) (record { site = a; other = b; count = k })
     raised-cut e =
         cut-takes x n _ (raised-stands ∙ e)
-          ∙ more x n n xs _ (record { site = a; other = b; count = k }) (raise-m xs n i a b k on long same) (raise-s xs n i a b k on long same)
-          ∙ ap (λ y. cut-by y (record { site = a; other = b; count = k })) (sym (cut-takes x n xs e))
+        ∙ more x n n xs _ (record { site = a; other = b; count = k }) (raise-m xs n i a b k on long same) (raise-s xs n i a b k on long same)
+        ∙ ap (λ y. cut-by y (record { site = a; other = b; count = k })) (sym (cut-takes x n xs e))
 
     pub raised-idle : all-fit (x .sites) xs n ≡ false → cut-of x n (set xs i (raised (getD xs i no-link) k)) ≡ x
     raised-idle e = cut-idle x n _ (raised-stands ∙ e)
@@ -106,7 +109,7 @@ raise-fits x ok n i xs on a (Site y) k one same fits =
     omega (arith, m-of-term xs n i a y on, m-le ok a y)
 raise-fits x ok n i xs on a Drain k one same fits =
     let e : Link = getD xs i no-link in
-    let all : drained e a ≡ e .count = cond-true (drains (e .site) (e .other) a) (e .count) 0 (alike-drains (e .site) (e .other) a Drain same a ∙ eq-eqb a a refl) in
+    let all : to-drain e a ≡ e .count = cond-true (drains (e .site) (e .other) a) (e .count) 0 (alike-drains (e .site) (e .other) a Drain same a ∙ eq-eqb a a refl) in
     omega (arith, s-of-term xs n i a on, s-le ok a)
 
 pub new-fits : (x : Shape) → Sound x → (n : ℕ) (xs : List Link) (a : ℕ) (b : End) (k : ℕ) → k ≤ standing (lessened x n xs) a b → k ≤ 500000
@@ -118,6 +121,6 @@ pub cut-none : (x : Shape) (xs : List Link) → cut-of x 0 xs ≡ x
 cut-none x xs = cut-takes x 0 xs (all-fit-none (x .sites) xs) ∙ none where
   none : lessened x 0 xs ≡ x
   none =
-    let p : (λ u v. x .m u v - m-of xs 0 u v) ≡ x .m = fun-ext (λ u. fun-ext (λ v. omega (arith, m-of-none xs u v))) in
-    let q : (λ v. x .s v - s-of xs 0 v) ≡ x .s = fun-ext (λ v. omega (arith, s-of-none xs v)) in
-    λ i. record { sites = x .sites; m = p i; s = q i }
+      let p : (λ u v. x .m u v - m-of xs 0 u v) ≡ x .m = fun-ext (λ u. fun-ext (λ v. omega (arith, m-of-none xs u v))) in
+      let q : (λ v. x .s v - s-of xs 0 v) ≡ x .s = fun-ext (λ v. omega (arith, s-of-none xs v)) in
+      λ i. record { sites = x .sites; m = p i; s = q i }

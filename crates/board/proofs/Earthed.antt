@@ -27,8 +27,15 @@ module _ {b : Shape} (ok : Sound b) (w : ℕ) (on : w < b .sites) (two : 1 < b .
       let to : ℕ → ℕ = λ u. b .m (up w u) w in
       let s1 : ℕ → ℕ = λ u. b .s (up w u) in
       let rows = sum-same n (λ u. row-total b (up w u)) (λ u. rest u + to u) (λ u l. sum-drop (b .sites) w (b .m (up w u)) on) in
-      omega (arith, ok .total, rows, sum-plus n rest to, sum-plus n s1 to,
-        sum-drop (b .sites) w (row-total b) on, sum-drop (b .sites) w (b .s) on)
+      omega (
+        arith,
+        ok .total,
+        rows,
+        sum-plus n rest to,
+        sum-plus n s1 to,
+        sum-drop (b .sites) w (row-total b) on,
+        sum-drop (b .sites) w (b .s) on,
+      )
 
   pub earthed-sound : Sound (earthed w b)
   unfolding earthed

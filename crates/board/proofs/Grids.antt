@@ -40,31 +40,38 @@ module _ (rows columns : ℕ) where
 
   m-sym : (u v : ℕ) → grid-of rows columns .m u v ≡ grid-of rows columns .m v u
   m-sym u v = elim (cases-lt u (rows * columns)) [
-      inl a ↦ elim (cases-lt v (rows * columns)) [
-          inl b ↦ m-in u v a b ∙ ap one (neighbours-sym (row-of columns u) (column-of columns u) (row-of columns v) (column-of columns v)) ∙ sym (m-in v u b a)
-        | inr b ↦ m-off u v b ∙ sym (m-off-left v u b) ]
-    | inr a ↦ m-off-left u v a ∙ sym (m-off v u a) ]
+    | inl a ↦ elim (cases-lt v (rows * columns)) [
+      | inl b ↦ m-in u v a b ∙ ap one (neighbours-sym (row-of columns u) (column-of columns u) (row-of columns v) (column-of columns v)) ∙ sym (m-in v u b a)
+      | inr b ↦ m-off u v b ∙ sym (m-off-left v u b)
+    ]
+    | inr a ↦ m-off-left u v a ∙ sym (m-off v u a)
+  ]
 
   m-none : (v : ℕ) → grid-of rows columns .m v v ≡ 0
   m-none v = elim (cases-lt v (rows * columns)) [
-      inl a ↦ m-in v v a a ∙ ap one (neighbours-not (row-of columns v) (column-of columns v))
-    | inr a ↦ m-off v v a ]
+    | inl a ↦ m-in v v a a ∙ ap one (neighbours-not (row-of columns v) (column-of columns v))
+    | inr a ↦ m-off v v a
+  ]
 
   s-le : (v : ℕ) → grid-of rows columns .s v ≤ 4
   s-le v = elim (cases-lt v (rows * columns)) [
-      inl l ↦ omega (arith, s-in v l, missing-le rows columns (row-of columns v) (column-of columns v))
-    | inr l ↦ omega (arith, s-off v l) ]
+    | inl l ↦ omega (arith, s-in v l, missing-le rows columns (row-of columns v) (column-of columns v))
+    | inr l ↦ omega (arith, s-off v l)
+  ]
 
   module _ (some : 1 ≤ columns) where
     -- a site that is none of the four neighbours
     m-zero : (v k : ℕ) → (Near columns some v k → k < rows * columns → ⊥) → grid-of rows columns .m v k ≡ 0
     m-zero v k off = elim (cases-lt v (rows * columns)) [
-        inl a ↦ elim (cases-lt k (rows * columns)) [
-            inl b ↦ elim (cases-bool (test v k)) [
-                inl t ↦ absurd (off (near columns some v k t) b)
-              | inr t ↦ m-in v k a b ∙ ap one t ]
-          | inr b ↦ m-off v k b ]
-      | inr a ↦ m-off-left v k a ]
+      | inl a ↦ elim (cases-lt k (rows * columns)) [
+        | inl b ↦ elim (cases-bool (test v k)) [
+          | inl t ↦ absurd (off (near columns some v k t) b)
+          | inr t ↦ m-in v k a b ∙ ap one t
+        ]
+        | inr b ↦ m-off v k b
+      ]
+      | inr a ↦ m-off-left v k a
+    ]
 
     m-one : (v k : ℕ) → v < rows * columns → k < rows * columns → Joined columns some v k → 0 < grid-of rows columns .m v k
     m-one v k a b j = omega (arith, m-in v k a b, ap one j)
@@ -72,16 +79,20 @@ module _ (rows columns : ℕ) where
     -- one for each of the four at the most
     m-four : (v k : ℕ) → grid-of rows columns .m v k ≤ (one (eqb (k + columns) v) + one (eqb (k + 1) v)) + (one (eqb k (v + 1)) + one (eqb k (v + columns)))
     m-four v k = elim (cases-lt v (rows * columns)) [
-        inl a ↦ elim (cases-lt k (rows * columns)) [
-            inl b ↦ elim (cases-bool (test v k)) [
-                inl t ↦ elim (near columns some v k t) [
-                    is-above e ↦ omega (arith, m-in v k a b, ap one t, ap one (eq-eqb (k + columns) v e))
-                  | is-left h e ↦ omega (arith, m-in v k a b, ap one t, ap one (eq-eqb (k + 1) v e))
-                  | is-right h e ↦ omega (arith, m-in v k a b, ap one t, ap one (eq-eqb k (v + 1) e))
-                  | is-under e ↦ omega (arith, m-in v k a b, ap one t, ap one (eq-eqb k (v + columns) e)) ]
-              | inr t ↦ omega (arith, m-in v k a b, ap one t) ]
-          | inr b ↦ omega (arith, m-off v k b) ]
-      | inr a ↦ omega (arith, m-off-left v k a) ]
+      | inl a ↦ elim (cases-lt k (rows * columns)) [
+        | inl b ↦ elim (cases-bool (test v k)) [
+          | inl t ↦ elim (near columns some v k t) [
+            | is-above e ↦ omega (arith, m-in v k a b, ap one t, ap one (eq-eqb (k + columns) v e))
+            | is-left h e ↦ omega (arith, m-in v k a b, ap one t, ap one (eq-eqb (k + 1) v e))
+            | is-right h e ↦ omega (arith, m-in v k a b, ap one t, ap one (eq-eqb k (v + 1) e))
+            | is-under e ↦ omega (arith, m-in v k a b, ap one t, ap one (eq-eqb k (v + columns) e))
+          ]
+          | inr t ↦ omega (arith, m-in v k a b, ap one t)
+        ]
+        | inr b ↦ omega (arith, m-off v k b)
+      ]
+      | inr a ↦ omega (arith, m-off-left v k a)
+    ]
 
     row-le : (v : ℕ) → row-total (grid-of rows columns) v ≤ 4
     row-le v =
@@ -90,28 +101,36 @@ module _ (rows columns : ℕ) where
         let f2 : ℕ → ℕ = λ k. one (eqb (k + 1) v) in
         let f3 : ℕ → ℕ = λ k. one (eqb k (v + 1)) in
         let f4 : ℕ → ℕ = λ k. one (eqb k (v + columns)) in
-        omega (arith, sum-up n (grid-of rows columns .m v) (λ k. (f1 k + f2 k) + (f3 k + f4 k)) (λ k h. m-four v k),
-          sum-plus n (λ k. f1 k + f2 k) (λ k. f3 k + f4 k), sum-plus n f1 f2, sum-plus n f3 f4,
+        omega (
+          arith,
+          sum-up n (grid-of rows columns .m v) (λ k. (f1 k + f2 k) + (f3 k + f4 k)) (λ k h. m-four v k),
+          sum-plus n (λ k. f1 k + f2 k) (λ k. f3 k + f4 k),
+          sum-plus n f1 f2,
+          sum-plus n f3 f4,
           sum-only n (v - columns) 1 f1 (one-le _) (λ k ne. ap one (ne-eqb (k + columns) v (λ e. ne (omega arith)))),
           sum-only n (v - 1) 1 f2 (one-le _) (λ k ne. ap one (ne-eqb (k + 1) v (λ e. ne (omega arith)))),
           sum-only n (v + 1) 1 f3 (one-le _) (λ k ne. ap one (ne-eqb k (v + 1) ne)),
-          sum-only n (v + columns) 1 f4 (one-le _) (λ k ne. ap one (ne-eqb k (v + columns) ne)))
+          sum-only n (v + columns) 1 f4 (one-le _) (λ k ne. ap one (ne-eqb k (v + columns) ne)),
+        )
 
     pub grid-sound : 1 ≤ rows → rows ≤ 64 → columns ≤ 64 → Sound (grid-of rows columns)
     unfolding grid-of
     grid-sound r1 r64 c64 =
-      let few : rows * columns ≤ 64 * 64 = mul-le-mul r64 c64 in
-      let all : 1 * 1 ≤ rows * columns = mul-le-mul r1 some in
-      record {
-        some = all;
-        few = few;
-        symmetric = m-sym;
-        no-loop = m-none;
-        off = m-off;
-        off-drain = s-off;
-        total = omega (arith, sum-const (rows * columns) 4 (row-total (grid-of rows columns)) (λ k l. row-le k),
-          sum-const (rows * columns) 4 (grid-of rows columns .s) (λ k l. s-le k));
-      }
+        let few : rows * columns ≤ 64 * 64 = mul-le-mul r64 c64 in
+        let all : 1 * 1 ≤ rows * columns = mul-le-mul r1 some in
+        record {
+          some = all;
+          few = few;
+          symmetric = m-sym;
+          no-loop = m-none;
+          off = m-off;
+          off-drain = s-off;
+          total = omega (
+            arith,
+            sum-const (rows * columns) 4 (row-total (grid-of rows columns)) (λ k l. row-le k),
+            sum-const (rows * columns) 4 (grid-of rows columns .s) (λ k l. s-le k),
+          );
+        }
 
     pub placed : Placed rows columns
     placed = record {
@@ -119,13 +138,13 @@ module _ (rows columns : ℕ) where
       column-back = λ r c h. column-at columns some r c _ h refl;
       site-back = split columns some;
       links = λ r c p q hr hc hp hq.
-        m-in (site-at columns r c) (site-at columns p q) (on-grid columns some rows r c hr hc) (on-grid columns some rows p q hp hq)
+          m-in (site-at columns r c) (site-at columns p q) (on-grid columns some rows r c hr hc) (on-grid columns some rows p q hp hq)
           ∙ ap (λ x. one (neighbours x (column-of columns (site-at columns r c)) (row-of columns (site-at columns p q)) (column-of columns (site-at columns p q)))) (row-at columns some r c _ hc refl)
           ∙ ap (λ x. one (neighbours r x (row-of columns (site-at columns p q)) (column-of columns (site-at columns p q)))) (column-at columns some r c _ hc refl)
           ∙ ap (λ x. one (neighbours r c x (column-of columns (site-at columns p q)))) (row-at columns some p q _ hq refl)
           ∙ ap (λ x. one (neighbours r c p x)) (column-at columns some p q _ hq refl);
       drain = λ r c hr hc.
-        s-in (site-at columns r c) (on-grid columns some rows r c hr hc)
+          s-in (site-at columns r c) (on-grid columns some rows r c hr hc)
           ∙ ap (λ x. missing rows columns x (column-of columns (site-at columns r c))) (row-at columns some r c _ hc refl)
           ∙ ap (missing rows columns r) (column-at columns some r c _ hc refl);
     }
@@ -154,12 +173,12 @@ module _ (rows columns : ℕ) where
 
       pub next-left : No-above → 0 < column-of columns v → j ≤ v - 1 → Least (grid-of rows columns .m v) j (v - 1)
       next-left a h from =
-        let one : 1 ≤ v = left-on columns some v h in
-        record {
-          from = from;
-          linked = m-one v (v - 1) on (omega arith) (joined-left columns some v (v - 1) h (omega arith));
-          before = λ k f b. m-zero v k (λ n l. elim n [ is-above e ↦ omega (arith, a (omega arith)) | is-left p e ↦ omega arith | is-right p e ↦ omega arith | is-under e ↦ omega arith ]);
-        }
+          let one : 1 ≤ v = left-on columns some v h in
+          record {
+            from = from;
+            linked = m-one v (v - 1) on (omega arith) (joined-left columns some v (v - 1) h (omega arith));
+            before = λ k f b. m-zero v k (λ n l. elim n [ is-above e ↦ omega (arith, a (omega arith)) | is-left p e ↦ omega arith | is-right p e ↦ omega arith | is-under e ↦ omega arith ]);
+          }
 
       pub next-right : No-above → No-left → column-of columns v + 1 < columns → j ≤ v + 1 → Least (grid-of rows columns .m v) j (v + 1)
       next-right a l h from = record {

@@ -13,7 +13,7 @@ use Rattle.std.proofs.shelf.Tests.{cases-lt, cases-eq, cond-true, cond-false, l
 use Rattle.board.specs.Shape.{Shape, Sound, Least, LeastFrom, NextIs, sum-below, all-links}
 use Rattle.board.proofs.Walks.{m-le, s-le}
 use Rattle.board.specs.declared.link.Link.{Link}
-use Rattle.board.specs.Links.{no-link, between, drained, far, weight, Fit, fits, Fits-all, m-of, s-of, weights}
+use Rattle.board.specs.Links.{no-link, between, to-drain, far, weight, Fit, fits, Fits-all, m-of, s-of, weights}
 use Rattle.board.proofs.Tables.{fits-true, m-of-sym, m-of-not, s-of-off, table-total, grow-m, grow-s, m-of-more, m-of-up, s-of-more, s-of-up, m-of-none, s-of-none, between-far}
 use Rattle.board.specs.Lists.{listed, linked, nearer}
 use Rattle.board.specs.Adding.{shape-of}
@@ -35,14 +35,14 @@ pub listed-grown : (n k : ℕ) (xs : List Link) (l : Link) → k < length xs →
 unfolding linked
 listed-grown n k xs l h =
     let p : m-of (set xs k l) (k + 1) ≡ (λ u v. m-of xs k u v + between l u v) = fun-ext (λ u. fun-ext (λ v. grow-m xs k l h u v)) in
-    let q : s-of (set xs k l) (k + 1) ≡ (λ v. s-of xs k v + drained l v) = fun-ext (λ v. grow-s xs k l h v) in
+    let q : s-of (set xs k l) (k + 1) ≡ (λ v. s-of xs k v + to-drain l v) = fun-ext (λ v. grow-s xs k l h v) in
     λ i. record { sites = n; m = p i; s = q i }
 
 -- a loop's step keeps the sum small
 pub links-fit : (n k i : ℕ) (xs : List Link) → Sound (listed n k xs) → i < k → (u v : ℕ) → m-of xs i u v + between (getD xs i no-link) u v ≤ 500000
 links-fit n k i xs ok h u v = omega (arith, m-of-more xs i u v, m-of-up xs (i + 1) k u v (omega arith), m-le ok u v)
 
-pub drain-fit : (n k i : ℕ) (xs : List Link) → Sound (listed n k xs) → i < k → (v : ℕ) → s-of xs i v + drained (getD xs i no-link) v ≤ 500000
+pub drain-fit : (n k i : ℕ) (xs : List Link) → Sound (listed n k xs) → i < k → (v : ℕ) → s-of xs i v + to-drain (getD xs i no-link) v ≤ 500000
 drain-fit n k i xs ok h v = omega (arith, s-of-more xs i v, s-of-up xs (i + 1) k v (omega arith), s-le ok v)
 
 pub next-none : (n : ℕ) (xs : List Link) (v j : ℕ) → NextIs (listed n 0 xs) v j None
@@ -91,9 +91,11 @@ module _ (n i : ℕ) (xs : List Link) (v j : ℕ) where
   next-more l is fit one best next = go (far (l .site) (l .other) v) refl where
     grown : (k : ℕ) → m-of xs (i + 1) v k ≡ m-of xs i v k + elim (far (l .site) (l .other) v) [ Some w ↦ cond (eqb w k) (l .count) 0 | None ↦ 0 ]
     grown k = m-of-more xs i v k ∙ ap (λ y. m-of xs i v k + y) (ap (λ (x : Link). between x v k) (sym is) ∙ between-far n l fit v k)
+
     none-of : (o : Option ℕ) → nearer j o None ≡ o
     none-of None = refl
     none-of (Some x) = refl
+
     go : (f : Option ℕ) → far (l .site) (l .other) v ≡ f → NextIs (listed n (i + 1) xs) v j (nearer j best f)
     go None p = let at : nearer j best None ≡ best = none-of best in rw at (step-none 0 best (λ k h. omega (arith, grown k, ap {B = ℕ} (λ (o : Option ℕ). elim o [ Some w ↦ cond (eqb w k) (l .count) 0 | None ↦ 0 ]) p)) next)
     go (Some w) p = step-some (l .count) w one (λ k. grown k ∙ ap {B = ℕ} (λ (o : Option ℕ). m-of xs i v k + elim o [ Some w ↦ cond (eqb w k) (l .count) 0 | None ↦ 0 ]) p) best next

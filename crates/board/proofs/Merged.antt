@@ -45,15 +45,15 @@ module _ {x : Shape} (ok : Sound x) (a b : ℕ) (on-a : a < x .sites) (on-b : b 
   joined-sym : (p q : ℕ) → joined-m a b x p q ≡ joined-m a b x q p
   joined-sym p q =
       let e : x .m p q + (cond (eqb b p) (x .m a q) 0 + cond (eqb b q) (x .m p a) 0) ≡ x .m q p + (cond (eqb b q) (x .m a p) 0 + cond (eqb b p) (x .m q a) 0)
-            = omega (arith, ok .symmetric p q, ap (λ y. cond (eqb b p) y 0) (ok .symmetric a q), ap (λ y. cond (eqb b q) y 0) (ok .symmetric p a)) in
+      = omega (arith, ok .symmetric p q, ap (λ y. cond (eqb b p) y 0) (ok .symmetric a q), ap (λ y. cond (eqb b q) y 0) (ok .symmetric p a)) in
       ap (λ t. cond t 0 (x .m p q + (cond (eqb b p) (x .m a q) 0 + cond (eqb b q) (x .m p a) 0))) (eqb-sym p q) ∙ ap (cond (eqb q p) 0) e
 
   joined-off : (p q : ℕ) → x .sites ≤ q → joined-m a b x p q ≡ 0
   joined-off p q h =
       cond-none (eqb p q) _ (omega (arith, ok .off p q h, ap (λ y. cond (eqb b p) y 0) (ok .off a q h), cond-const (eqb b p), cond-false (eqb b q) (x .m p a) 0 (ne-eqb b q (λ e. omega arith)))) where
-    cond-const : (t : Bool) → cond {A = ℕ} t 0 0 ≡ 0
-    cond-const true = refl
-    cond-const false = refl
+        cond-const : (t : Bool) → cond {A = ℕ} t 0 0 ≡ 0
+        cond-const true = refl
+        cond-const false = refl
 
   row-le : (u : ℕ) → sum-below (x .sites - 1) (λ v. joined-m a b x (up a u) (up a v))
       ≤ (sum-below (x .sites - 1) (λ v. x .m (up a u) (up a v)) + x .m (up a u) a) + cond (eqb b (up a u)) (sum-below (x .sites - 1) (λ v. x .m a (up a v))) 0
@@ -63,8 +63,14 @@ module _ {x : Shape} (ok : Sound x) (a b : ℕ) (on-a : a < x .sites) (on-b : b 
       let f : ℕ → ℕ = λ v. x .m (up a u) (up a v) in
       let g : ℕ → ℕ = λ v. cond (eqb b (up a u)) (x .m a (up a v)) 0 in
       let h : ℕ → ℕ = λ v. cond (eqb b (up a v)) (x .m (up a u) a) 0 in
-      omega (arith, sum-up n (λ v. joined-m a b x (up a u) (up a v)) (λ v. f v + (g v + h v)) (λ v l. cond-le (eqb (up a u) (up a v)) (f v + (g v + h v))),
-        sum-plus n f (λ v. g v + h v), sum-plus n g h, pick (x .m (up a u) a), cond-sum n (eqb b (up a u)) (λ v. x .m a (up a v)))
+      omega (
+        arith,
+        sum-up n (λ v. joined-m a b x (up a u) (up a v)) (λ v. f v + (g v + h v)) (λ v l. cond-le (eqb (up a u) (up a v)) (f v + (g v + h v))),
+        sum-plus n f (λ v. g v + h v),
+        sum-plus n g h,
+        pick (x .m (up a u) a),
+        cond-sum n (eqb b (up a u)) (λ v. x .m a (up a v)),
+      )
 
   merged-total : all-links (merged a b x) ≤ 500000
   unfolding merged
@@ -75,10 +81,19 @@ module _ {x : Shape} (ok : Sound x) (a b : ℕ) (on-a : a < x .sites) (on-b : b 
       let mine : ℕ = sum-below (x .sites - 1) (λ v. x .m a (up a v)) in
       let bump : ℕ → ℕ = λ u. cond (eqb b (up a u)) (sum-below (x .sites - 1) (λ v. x .m a (up a v))) 0 in
       let rows = sum-same n (λ u. row-total x (up a u)) (λ u. rest u + to u) (λ u l. sum-drop (x .sites) a (x .m (up a u)) on-a) in
-      omega (arith, ok .total, rows,
+      omega (
+        arith,
+        ok .total,
+        rows,
         sum-up n (λ u. sum-below (x .sites - 1) (λ v. joined-m a b x (up a u) (up a v))) (λ u. (rest u + to u) + bump u) (λ u l. row-le u),
-        sum-plus n (λ u. rest u + to u) bump, pick mine, sum-drop (x .sites) a (row-total x) on-a, sum-drop (x .sites) a (x .m a) on-a,
-        sum-plus n (λ v. x .s (up a v)) (λ v. cond (eqb b (up a v)) (x .s a) 0), pick (x .s a), sum-drop (x .sites) a (x .s) on-a)
+        sum-plus n (λ u. rest u + to u) bump,
+        pick mine,
+        sum-drop (x .sites) a (row-total x) on-a,
+        sum-drop (x .sites) a (x .m a) on-a,
+        sum-plus n (λ v. x .s (up a v)) (λ v. cond (eqb b (up a v)) (x .s a) 0),
+        pick (x .s a),
+        sum-drop (x .sites) a (x .s) on-a,
+      )
 
   pub merged-sound : Sound (merged a b x)
   unfolding merged
@@ -144,4 +159,4 @@ module _ (x : Shape) (o : Option Pair) (p : Pair) (e : merge-active x o ≡ Some
 pub set-merged : (x : Shape) (p : Pair) → Merge-on x (Some p) → merge-of x (Some p) ≡ merged (p .a) (p .b) x
 set-merged x p h =
     ap (merge-at x) (cond-true (ltb (p .a) (x .sites) && (ltb (p .b) (x .sites) && not (eqb (p .a) (p .b)))) (Some p) None
-      (and-from (ltb (p .a) (x .sites)) _ (lt-ltb (p .a) (x .sites) (h .0)) (and-from (ltb (p .b) (x .sites)) _ (lt-ltb (p .b) (x .sites) (h .1)) (not-from-false _ (ne-eqb (p .a) (p .b) (h .2))))))
+    (and-from (ltb (p .a) (x .sites)) _ (lt-ltb (p .a) (x .sites) (h .0)) (and-from (ltb (p .b) (x .sites)) _ (lt-ltb (p .b) (x .sites) (h .1)) (not-from-false _ (ne-eqb (p .a) (p .b) (h .2))))))

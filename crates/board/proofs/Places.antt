@@ -25,10 +25,12 @@ or-swap false false = refl
 
 eqb-sym : (a b : ℕ) → eqb a b ≡ eqb b a
 eqb-sym a b = elim (cases-bool (eqb a b)) [
-    inl t ↦ t ∙ sym (eq-eqb b a (sym (eqb-true a b t)))
+  | inl t ↦ t ∙ sym (eq-eqb b a (sym (eqb-true a b t)))
   | inr f ↦ elim (cases-bool (eqb b a)) [
-        inl t ↦ eq-eqb a b (sym (eqb-true b a t)) ∙ sym t
-      | inr g ↦ f ∙ sym g ] ]
+    | inl t ↦ eq-eqb a b (sym (eqb-true b a t)) ∙ sym t
+    | inr g ↦ f ∙ sym g
+  ]
+]
 
 apart-sym : (a b : ℕ) → one-apart a b ≡ one-apart b a
 apart-sym a b = or-swap (eqb (a + 1) b) (eqb (b + 1) a)
@@ -36,9 +38,9 @@ apart-sym a b = or-swap (eqb (a + 1) b) (eqb (b + 1) a)
 pub neighbours-sym : (r c p q : ℕ) → neighbours r c p q ≡ neighbours p q r c
 neighbours-sym r c p q =
     ap (λ t. (t && one-apart c q) || (eqb c q && one-apart r p)) (eqb-sym r p)
-      ∙ ap (λ t. (eqb p r && t) || (eqb c q && one-apart r p)) (apart-sym c q)
-      ∙ ap (λ t. (eqb p r && one-apart q c) || (t && one-apart r p)) (eqb-sym c q)
-      ∙ ap (λ t. (eqb p r && one-apart q c) || (eqb q c && t)) (apart-sym r p)
+    ∙ ap (λ t. (eqb p r && t) || (eqb c q && one-apart r p)) (apart-sym c q)
+    ∙ ap (λ t. (eqb p r && one-apart q c) || (t && one-apart r p)) (eqb-sym c q)
+    ∙ ap (λ t. (eqb p r && one-apart q c) || (eqb q c && t)) (apart-sym r p)
 
 apart-not : (a : ℕ) → one-apart a a ≡ false
 apart-not a = or-from (eqb (a + 1) a) (eqb (a + 1) a) (ne-eqb (a + 1) a (λ e. omega arith)) (ne-eqb (a + 1) a (λ e. omega arith))
@@ -46,15 +48,17 @@ apart-not a = or-from (eqb (a + 1) a) (eqb (a + 1) a) (ne-eqb (a + 1) a (λ e. o
 pub neighbours-not : (r c : ℕ) → neighbours r c r c ≡ false
 neighbours-not r c = ap (λ t. (eqb r r && t) || (eqb c c && one-apart r r)) (apart-not c)
     ∙ ap (λ t. (eqb r r && false) || (eqb c c && t)) (apart-not r) ∙ none (eqb r r) (eqb c c) where
-  none : (s t : Bool) → ((s && false) || (t && false)) ≡ false
-  none true true = refl
-  none true false = refl
-  none false true = refl
-  none false false = refl
+      none : (s t : Bool) → ((s && false) || (t && false)) ≡ false
+      none true true = refl
+      none true false = refl
+      none false true = refl
+      none false false = refl
 
 apart-cases : (a b : ℕ) → one-apart a b ≡ true → (a + 1 ≡ b) ⊎ (b + 1 ≡ a)
 apart-cases a b e = elim (or-cases (eqb (a + 1) b) (eqb (b + 1) a) e) [
-    inl t ↦ inl (eqb-true (a + 1) b t) | inr t ↦ inr (eqb-true (b + 1) a t) ]
+  | inl t ↦ inl (eqb-true (a + 1) b t)
+  | inr t ↦ inr (eqb-true (b + 1) a t)
+]
 
 -- the four ways to be neighbours
 pub data Way (r c p q : ℕ) : Type 0 where
@@ -65,10 +69,15 @@ pub data Way (r c p q : ℕ) : Type 0 where
 
 way : (r c p q : ℕ) → neighbours r c p q ≡ true → Way r c p q
 way r c p q e = elim (or-cases (eqb r p && one-apart c q) (eqb c q && one-apart r p) e) [
-    inl t ↦ (let h = and-parts (eqb r p) (one-apart c q) t in elim (apart-cases c q (h .1)) [
-        inl x ↦ right (eqb-true r p (h .0)) x | inr x ↦ left (eqb-true r p (h .0)) x ])
+  | inl t ↦ (let h = and-parts (eqb r p) (one-apart c q) t in elim (apart-cases c q (h .1)) [
+    | inl x ↦ right (eqb-true r p (h .0)) x
+    | inr x ↦ left (eqb-true r p (h .0)) x
+  ])
   | inr t ↦ (let h = and-parts (eqb c q) (one-apart r p) t in elim (apart-cases r p (h .1)) [
-        inl x ↦ under x (eqb-true c q (h .0)) | inr x ↦ above x (eqb-true c q (h .0)) ]) ]
+    | inl x ↦ under x (eqb-true c q (h .0))
+    | inr x ↦ above x (eqb-true c q (h .0))
+  ])
+]
 
 pub beside : (r c d : ℕ) → one-apart c d ≡ true → neighbours r c r d ≡ true
 beside r c d e = or-left (eqb r r && one-apart c d) (eqb c d && one-apart r r) (and-from (eqb r r) (one-apart c d) (eq-eqb r r refl) e)
@@ -103,8 +112,9 @@ module _ (columns : ℕ) (some : 1 ≤ columns) where
 
   pub row-lt : (rows v : ℕ) → v < rows * columns → row-of columns v < rows
   row-lt rows v h = elim (cases-lt (row-of columns v) rows) [
-      inl l ↦ l
-    | inr l ↦ (let up : rows * columns ≤ row-of columns v * columns = mul-le-mul-right columns l in omega (arith, split v)) ]
+    | inl l ↦ l
+    | inr l ↦ (let up : rows * columns ≤ row-of columns v * columns = mul-le-mul-right columns l in omega (arith, split v))
+  ]
 
   -- whom v has for a neighbour, as a site
   pub data Near (v k : ℕ) : Type 0 where
@@ -119,10 +129,11 @@ module _ (columns : ℕ) (some : 1 ≤ columns) where
       let sk = split k in
       let lk = column-lt k in
       elim (way (row-of columns v) (column-of columns v) (row-of columns k) (column-of columns k) e) [
-          above x y ↦ is-above (omega (arith, ap (λ t. t * columns) x))
+        | above x y ↦ is-above (omega (arith, ap (λ t. t * columns) x))
         | left x y ↦ is-left (omega arith) (omega (arith, ap (λ t. t * columns) x))
         | right x y ↦ is-right (omega arith) (omega (arith, ap (λ t. t * columns) x))
-        | under x y ↦ is-under (omega (arith, ap (λ t. t * columns) x)) ]
+        | under x y ↦ is-under (omega (arith, ap (λ t. t * columns) x))
+      ]
 
   -- the four neighbours, where they stand
   abbrev pub Joined : ℕ → ℕ → Type 0
@@ -131,19 +142,21 @@ module _ (columns : ℕ) (some : 1 ≤ columns) where
   joined-at : (v k p q : ℕ) → q < columns → k ≡ site-at columns p q → neighbours (row-of columns v) (column-of columns v) p q ≡ true → Joined v k
   joined-at v k p q h e n =
       ap (λ x. neighbours (row-of columns v) (column-of columns v) x (column-of columns k)) (row-at p q k h e)
-        ∙ ap (neighbours (row-of columns v) (column-of columns v) p) (column-at p q k h e) ∙ n
+      ∙ ap (neighbours (row-of columns v) (column-of columns v) p) (column-at p q k h e) ∙ n
 
   pub joined-above : (v k : ℕ) → k + columns ≡ v → Joined v k
   joined-above v k e =
       let r : ℕ = row-of columns v in
       let c : ℕ = column-of columns v in
       let pos : 0 < row-of columns v = elim (cases-lt 0 (row-of columns v)) [
-          inl l ↦ l | inr l ↦ omega (arith, split v, column-lt v, ap (λ t. t * columns) (none (row-of columns v) l)) ] in
+        | inl l ↦ l
+        | inr l ↦ omega (arith, split v, column-lt v, ap (λ t. t * columns) (none (row-of columns v) l))
+      ] in
       let p : ℕ = row-of columns v - 1 in
       let up : p + 1 ≡ row-of columns v = omega arith in
       joined-at v k p c (column-lt v) (omega (arith, split v, ap (λ t. t * columns) up)) (stacked r p c (apart-down r p up)) where
-    none : (x : ℕ) → x ≤ 0 → x ≡ 0
-    none x h = omega arith
+        none : (x : ℕ) → x ≤ 0 → x ≡ 0
+        none x h = omega arith
 
   pub joined-left : (v k : ℕ) → 0 < column-of columns v → k + 1 ≡ v → Joined v k
   joined-left v k h e =

@@ -17,7 +17,7 @@ use Rattle.board.proofs.Sums.{sum-suc, sum-same, sum-none, sum-plus, sum-swap,
 use Rattle.board.specs.declared.link.End.{End}
 use Rattle.board.specs.declared.link.End.the-variants.{Site, Drain}
 use Rattle.board.specs.declared.link.Link.{Link}
-use Rattle.board.specs.Links.{no-link, joins, drains, between, drained, far, weight, Fit, fits, Fits-all, m-of, s-of, weights, alike, Low, Misfit, all-fit}
+use Rattle.board.specs.Links.{no-link, joins, drains, between, to-drain, far, weight, Fit, fits, Fits-all, m-of, s-of, weights, alike, Low, Misfit, all-fit}
 
 -- the test says the fact
 pub fits-true : (n a : ℕ) (b : End) → fits n a b ≡ true → Fit n a b
@@ -30,7 +30,7 @@ fits-true n a Drain e = ltb-true a n e
 pub fit-fits : (n a : ℕ) (b : End) → Fit n a b → fits n a b ≡ true
 fit-fits n a (Site y) h =
     and-from (ltb a n) (ltb y n && not (eqb a y)) (lt-ltb a n (h .0))
-      (and-from (ltb y n) (not (eqb a y)) (lt-ltb y n (h .1)) (not-from-false (eqb a y) (ne-eqb a y (h .2))))
+    (and-from (ltb y n) (not (eqb a y)) (lt-ltb y n (h .1)) (not-from-false (eqb a y) (ne-eqb a y (h .2))))
 fit-fits n a Drain h = lt-ltb a n h
 
 -- either order
@@ -82,11 +82,21 @@ pub one-weight : (n a : ℕ) (b : End) (c : ℕ) → Fit n a b
     → sum-below n (λ u. sum-below n (λ v. cond (joins a b u v) c 0)) + sum-below n (λ v. cond (drains a b v) c 0) ≡ weight b c
 one-weight n a (Site y) c h =
     let row : (u : ℕ) → sum-below n (λ v. cond (joins a (Site y) u v) c 0) ≡ cond (eqb a u) c 0 + cond (eqb y u) c 0
-          = λ u. sum-same n _ _ (λ v l. split-pair a y c u v (h .2))
-                 ∙ omega (arith, sum-plus n (λ v. cond (eqb y v) (cond (eqb a u) c 0) 0) (λ v. cond (eqb a v) (cond (eqb y u) c 0) 0),
-                     sum-at n y (cond (eqb a u) c 0) (h .1), sum-at n a (cond (eqb y u) c 0) (h .0)) in
-    omega (arith, sum-same n _ _ (λ u l. row u), sum-plus n (λ u. cond (eqb a u) c 0) (λ u. cond (eqb y u) c 0),
-      sum-at n a c (h .0), sum-at n y c (h .1), sum-none n (λ v. 0) (λ v l. refl))
+    = λ u. sum-same n _ _ (λ v l. split-pair a y c u v (h .2))
+    ∙ omega (
+      arith,
+      sum-plus n (λ v. cond (eqb y v) (cond (eqb a u) c 0) 0) (λ v. cond (eqb a v) (cond (eqb y u) c 0) 0),
+      sum-at n y (cond (eqb a u) c 0) (h .1),
+      sum-at n a (cond (eqb y u) c 0) (h .0),
+    ) in
+    omega (
+      arith,
+      sum-same n _ _ (λ u l. row u),
+      sum-plus n (λ u. cond (eqb a u) c 0) (λ u. cond (eqb y u) c 0),
+      sum-at n a c (h .0),
+      sum-at n y c (h .1),
+      sum-none n (λ v. 0) (λ v l. refl),
+    )
 one-weight n a Drain c h =
     omega (arith, sum-none n (λ u. sum-below n (λ v. 0)) (λ u l. sum-none n (λ v. 0) (λ v l. refl)), sum-at n a c h)
 
@@ -96,11 +106,11 @@ pub table-total : (xs : List Link) (k n : ℕ) → Fits-all xs k n
 unfolding m-of s-of weights
 table-total xs k n fit =
     let f : ℕ → ℕ → ℕ → ℕ = λ u v i. between (getD xs i no-link) u v in
-    let d : ℕ → ℕ → ℕ = λ v i. drained (getD xs i no-link) v in
+    let d : ℕ → ℕ → ℕ = λ v i. to-drain (getD xs i no-link) v in
     let inner = sum-same n (λ u. sum-below n (λ v. sum-below k (f u v))) (λ u. sum-below k (λ i. sum-below n (λ v. f u v i))) (λ u l. sum-swap n k (f u)) in
     let outer = sum-swap n k (λ u i. sum-below n (λ v. f u v i)) in
     let each = sum-same k (λ i. sum-below n (λ u. sum-below n (λ v. f u v i)) + sum-below n (λ v. d v i)) (λ i. weight (getD xs i no-link .other) (getD xs i no-link .count))
-          (λ i l. one-weight n (getD xs i no-link .site) (getD xs i no-link .other) (getD xs i no-link .count) (fits-true n _ _ (fit i l .0))) in
+    (λ i l. one-weight n (getD xs i no-link .site) (getD xs i no-link .other) (getD xs i no-link .count) (fits-true n _ _ (fit i l .0))) in
     omega (arith, inner, outer, sum-swap n k d, each, sum-plus k (λ i. sum-below n (λ u. sum-below n (λ v. f u v i))) (λ i. sum-below n (λ v. d v i)))
 
 -- one more record
@@ -114,9 +124,9 @@ pub grow-m : (xs : List Link) (k : ℕ) (l : Link) → k < length xs → (u v : 
 unfolding m-of
 grow-m xs k l h u v = grow (λ x. between x u v) xs k l h
 
-pub grow-s : (xs : List Link) (k : ℕ) (l : Link) → k < length xs → (v : ℕ) → s-of (set xs k l) (k + 1) v ≡ s-of xs k v + drained l v
+pub grow-s : (xs : List Link) (k : ℕ) (l : Link) → k < length xs → (v : ℕ) → s-of (set xs k l) (k + 1) v ≡ s-of xs k v + to-drain l v
 unfolding s-of
-grow-s xs k l h v = grow (λ x. drained x v) xs k l h
+grow-s xs k l h v = grow (λ x. to-drain x v) xs k l h
 
 pub grow-weight : (xs : List Link) (k : ℕ) (l : Link) → k < length xs → weights (set xs k l) (k + 1) ≡ weights xs k + weight (l .other) (l .count)
 unfolding weights
@@ -124,11 +134,12 @@ grow-weight xs k l h = grow (λ x. weight (x .other) (x .count)) xs k l h
 
 pub grow-fit : (xs : List Link) (k n : ℕ) (l : Link) → k < length xs → Fits-all xs k n → Fit n (l .site) (l .other) → 1 ≤ l .count → Fits-all (set xs k l) (k + 1) n
 grow-fit xs k n l h all fit one i less = elim (cases-lt i k) [
-    inl lt ↦ let at : getD (set xs k l) i no-link ≡ getD xs i no-link = getD-set-other xs k i l no-link (omega arith) in rw at (all i lt)
+  | inl lt ↦ let at : getD (set xs k l) i no-link ≡ getD xs i no-link = getD-set-other xs k i l no-link (omega arith) in rw at (all i lt)
   | inr ge ↦
       let same : i ≡ k = omega arith in
       let at : getD (set xs k l) i no-link ≡ l = ap (λ j. getD (set xs k l) j no-link) same ∙ getD-set-same xs k l no-link h in
-      (ap (λ (x : Link). fits n (x .site) (x .other)) at ∙ fit-fits n (l .site) (l .other) fit, omega (arith, ap (λ (x : Link). x .count) at)) ]
+      (ap (λ (x : Link). fits n (x .site) (x .other)) at ∙ fit-fits n (l .site) (l .other) fit, omega (arith, ap (λ (x : Link). x .count) at))
+]
 
 -- steps of a loop over the records
 pub m-of-none : (xs : List Link) (u v : ℕ) → m-of xs 0 u v ≡ 0
@@ -147,7 +158,7 @@ pub m-of-more : (xs : List Link) (k u v : ℕ) → m-of xs (k + 1) u v ≡ m-of 
 unfolding m-of
 m-of-more xs k u v = sum-suc k _
 
-pub s-of-more : (xs : List Link) (k v : ℕ) → s-of xs (k + 1) v ≡ s-of xs k v + drained (getD xs k no-link) v
+pub s-of-more : (xs : List Link) (k v : ℕ) → s-of xs (k + 1) v ≡ s-of xs k v + to-drain (getD xs k no-link) v
 unfolding s-of
 s-of-more xs k v = sum-suc k _
 
@@ -163,13 +174,19 @@ s-of-up xs i k v h = sum-more i k _ h
 between-not : (n a c : ℕ) (b : End) → Fit n a b → (u v : ℕ) → ((u ≡ v) ⊎ (n ≤ v)) → cond (joins a b u v) c 0 ≡ 0
 between-not n a c (Site y) h u v (inl same) =
     split-pair a y c u v (h .2) ∙ elim (cases-eq a v) [
-        inl p ↦ omega (arith, cond-false (eqb y v) (cond (eqb a u) c 0) 0 (ne-eqb y v (λ q. h .2 (p ∙ sym q))),
-                  cond-true (eqb a v) (cond (eqb y u) c 0) 0 (eq-eqb a v p), cond-false (eqb y u) c 0 (ne-eqb y u (λ q. h .2 (p ∙ sym (q ∙ same)))))
+      | inl p ↦ omega (
+        arith,
+        cond-false (eqb y v) (cond (eqb a u) c 0) 0 (ne-eqb y v (λ q. h .2 (p ∙ sym q))),
+        cond-true (eqb a v) (cond (eqb y u) c 0) 0 (eq-eqb a v p),
+        cond-false (eqb y u) c 0 (ne-eqb y u (λ q. h .2 (p ∙ sym (q ∙ same)))),
+      )
       | inr p ↦
           let first : cond (eqb y v) (cond (eqb a u) c 0) 0 ≡ 0 = elim (cases-eq y v) [
-              inl q ↦ cond-true (eqb y v) (cond (eqb a u) c 0) 0 (eq-eqb y v q) ∙ cond-false (eqb a u) c 0 (ne-eqb a u (λ r. p (r ∙ same)))
-            | inr q ↦ cond-false (eqb y v) (cond (eqb a u) c 0) 0 (ne-eqb y v q) ] in
-          omega (arith, cond-false (eqb a v) (cond (eqb y u) c 0) 0 (ne-eqb a v p)) ]
+            | inl q ↦ cond-true (eqb y v) (cond (eqb a u) c 0) 0 (eq-eqb y v q) ∙ cond-false (eqb a u) c 0 (ne-eqb a u (λ r. p (r ∙ same)))
+            | inr q ↦ cond-false (eqb y v) (cond (eqb a u) c 0) 0 (ne-eqb y v q)
+          ] in
+          omega (arith, cond-false (eqb a v) (cond (eqb y u) c 0) 0 (ne-eqb a v p))
+    ]
 between-not n a c (Site y) h u v (inr off) =
     split-pair a y c u v (h .2) ∙ omega (arith, cond-false (eqb y v) (cond (eqb a u) c 0) 0 (ne-eqb y v (λ q. omega arith)), cond-false (eqb a v) (cond (eqb y u) c 0) 0 (ne-eqb a v (λ q. omega arith)))
 between-not n a c Drain h u v e = refl
@@ -223,20 +240,22 @@ m-of-low xs i n u v less few low =
 pub s-of-low : (xs : List Link) (i n v : ℕ) → i < n → n ≤ 32 → Low xs n → s-of xs (i + 1) v ≤ 16000000
 unfolding s-of
 s-of-low xs i n v less few low =
-    omega (arith, sum-const (i + 1) 500000 (λ k. drained (getD xs k no-link) v) (λ k h. cond-low (drains (getD xs k no-link .site) (getD xs k no-link .other) v) (getD xs k no-link .count) 500000 (low k (omega arith))))
+    omega (arith, sum-const (i + 1) 500000 (λ k. to-drain (getD xs k no-link) v) (λ k h. cond-low (drains (getD xs k no-link .site) (getD xs k no-link .other) v) (getD xs k no-link .count) 500000 (low k (omega arith))))
 
 -- an entry of the same pair joins the same sites
 pub alike-joins : (a : ℕ) (b : End) (c : ℕ) (d : End) → alike a b c d ≡ true → (u v : ℕ) → joins a b u v ≡ joins c d u v
 alike-joins a (Site y) c (Site z) e u v = elim (or-cases (eqb a c && eqb y z) (eqb a z && eqb y c) e) [
-    inl p ↦ let q = and-parts (eqb a c) (eqb y z) p in
-            ap (λ s. joins s (Site y) u v) (eqb-true a c (q .0)) ∙ ap (λ s. joins c (Site s) u v) (eqb-true y z (q .1))
+  | inl p ↦ let q = and-parts (eqb a c) (eqb y z) p in
+      ap (λ s. joins s (Site y) u v) (eqb-true a c (q .0)) ∙ ap (λ s. joins c (Site s) u v) (eqb-true y z (q .1))
   | inr p ↦ let q = and-parts (eqb a z) (eqb y c) p in
-            ap (λ s. joins s (Site y) u v) (eqb-true a z (q .0)) ∙ ap (λ s. joins z (Site s) u v) (eqb-true y c (q .1)) ∙ turned z c u v ] where
+      ap (λ s. joins s (Site y) u v) (eqb-true a z (q .0)) ∙ ap (λ s. joins z (Site s) u v) (eqb-true y c (q .1)) ∙ turned z c u v
+] where
   and-swap : (p q : Bool) → (p && q) ≡ (q && p)
   and-swap true true = refl
   and-swap true false = refl
   and-swap false true = refl
   and-swap false false = refl
+
   turned : (s t u v : ℕ) → joins s (Site t) u v ≡ joins t (Site s) u v
   turned s t u v = or-swap (eqb s u && eqb t v) (eqb s v && eqb t u) ∙ ap (λ p. p || (eqb s u && eqb t v)) (and-swap (eqb s v) (eqb t u)) ∙ ap (λ p. (eqb t u && eqb s v) || p) (and-swap (eqb s u) (eqb t v))
 alike-joins a (Site y) c Drain e u v = absurd (false≢true e)
@@ -258,9 +277,10 @@ raise : (f : Link → ℕ) (xs : List Link) (n i d : ℕ) (l : Link) → i < n �
     → sum-below n (λ k. f (getD (set xs i l) k no-link)) ≡ sum-below n (λ k. f (getD xs k no-link)) + d
 raise f xs n i d l on fit e =
     let same : (k : ℕ) → k < n → f (getD (set xs i l) k no-link) ≡ f (getD xs k no-link) + cond (eqb i k) d 0
-          = λ k h. elim (cases-eq i k) [
-              inl p ↦ omega (arith, cond-true (eqb i k) d 0 (eq-eqb i k p), ap f (ap (λ j. getD (set xs i l) j no-link) (sym p) ∙ getD-set-same xs i l no-link (omega arith)), ap (λ j. f (getD xs j no-link)) p)
-            | inr p ↦ omega (arith, cond-false (eqb i k) d 0 (ne-eqb i k p), ap f (getD-set-other xs i k l no-link (λ q. p (sym q)))) ] in
+    = λ k h. elim (cases-eq i k) [
+      | inl p ↦ omega (arith, cond-true (eqb i k) d 0 (eq-eqb i k p), ap f (ap (λ j. getD (set xs i l) j no-link) (sym p) ∙ getD-set-same xs i l no-link (omega arith)), ap (λ j. f (getD xs j no-link)) p)
+      | inr p ↦ omega (arith, cond-false (eqb i k) d 0 (ne-eqb i k p), ap f (getD-set-other xs i k l no-link (λ q. p (sym q))))
+    ] in
     omega (arith, sum-same n _ _ same, sum-plus n (λ k. f (getD xs k no-link)) (λ k. cond (eqb i k) d 0), sum-at n i d on)
 
 module _ (xs : List Link) (n i a : ℕ) (b : End) (k : ℕ) (on : i < n) (fit : n ≤ length xs) (same : alike (getD xs i no-link .site) (getD xs i no-link .other) a b ≡ true) where
@@ -270,30 +290,31 @@ module _ (xs : List Link) (n i a : ℕ) (b : End) (k : ℕ) (on : i < n) (fit : 
   raise-m u v =
       let x : Link = getD xs i no-link in
       raise (λ l. between l u v) xs n i (cond (joins a b u v) k 0) (record { site = x .site; other = x .other; count = x .count + k }) on fit
-        (cond-plus (joins (x .site) (x .other) u v) (x .count) k ∙ ap (λ t. cond (joins (x .site) (x .other) u v) (x .count) 0 + cond t k 0) (alike-joins (x .site) (x .other) a b same u v))
+      (cond-plus (joins (x .site) (x .other) u v) (x .count) k ∙ ap (λ t. cond (joins (x .site) (x .other) u v) (x .count) 0 + cond t k 0) (alike-joins (x .site) (x .other) a b same u v))
 
   pub raise-s : (v : ℕ) → s-of (set xs i (record { site = getD xs i no-link .site; other = getD xs i no-link .other; count = getD xs i no-link .count + k })) n v
-      ≡ s-of xs n v + drained (record { site = a; other = b; count = k }) v
+      ≡ s-of xs n v + to-drain (record { site = a; other = b; count = k }) v
   unfolding s-of
   raise-s v =
       let x : Link = getD xs i no-link in
-      raise (λ l. drained l v) xs n i (cond (drains a b v) k 0) (record { site = x .site; other = x .other; count = x .count + k }) on fit
-        (cond-plus (drains (x .site) (x .other) v) (x .count) k ∙ ap (λ t. cond (drains (x .site) (x .other) v) (x .count) 0 + cond t k 0) (alike-drains (x .site) (x .other) a b same v))
+      raise (λ l. to-drain l v) xs n i (cond (drains a b v) k 0) (record { site = x .site; other = x .other; count = x .count + k }) on fit
+      (cond-plus (drains (x .site) (x .other) v) (x .count) k ∙ ap (λ t. cond (drains (x .site) (x .other) v) (x .count) 0 + cond t k 0) (alike-drains (x .site) (x .other) a b same v))
 
 -- one entry is at most the sum
 pub m-of-term : (xs : List Link) (n i u v : ℕ) → i < n → between (getD xs i no-link) u v ≤ m-of xs n u v
 unfolding m-of
 m-of-term xs n i u v h = sum-term n i _ h
 
-pub s-of-term : (xs : List Link) (n i v : ℕ) → i < n → drained (getD xs i no-link) v ≤ s-of xs n v
+pub s-of-term : (xs : List Link) (n i v : ℕ) → i < n → to-drain (getD xs i no-link) v ≤ s-of xs n v
 unfolding s-of
 s-of-term xs n i v h = sum-term n i _ h
 
 -- entries stay low
 pub low-set : (xs : List Link) (n i : ℕ) (l : Link) → i < length xs → l .count ≤ 500000 → ((k : ℕ) → k < n → (k ≡ i → ⊥) → getD xs k no-link .count ≤ 500000) → Low (set xs i l) n
 low-set xs n i l on small low k h = elim (cases-eq k i) [
-    inl p ↦ omega (arith, ap (λ (x : Link). x .count) (ap (λ j. getD (set xs i l) j no-link) p ∙ getD-set-same xs i l no-link on))
-  | inr p ↦ omega (arith, ap (λ (x : Link). x .count) (getD-set-other xs i k l no-link p), low k h p) ]
+  | inl p ↦ omega (arith, ap (λ (x : Link). x .count) (ap (λ j. getD (set xs i l) j no-link) p ∙ getD-set-same xs i l no-link on))
+  | inr p ↦ omega (arith, ap (λ (x : Link). x .count) (getD-set-other xs i k l no-link p), low k h p)
+]
 
 -- ends that fit are not refused
 pub fit-quiet : (n a : ℕ) (b : End) → Fit n a b → (p : ℕ) → Misfit n a b p → ⊥
@@ -321,8 +342,9 @@ pub all-fit-bad : (n i k : ℕ) (xs : List Link) → i < k → fits n (getD xs i
 unfolding all-fit
 all-fit-bad n i zero xs h e = absurd (omega arith)
 all-fit-bad n i (suc k) xs h e = elim (cases-eq i k) [
-    inl p ↦ and-right (all-fit n xs k) (fits n (getD xs k no-link .site) (getD xs k no-link .other)) (ap (λ j. fits n (getD xs j no-link .site) (getD xs j no-link .other)) (sym p) ∙ e)
-  | inr p ↦ and-left (all-fit n xs k) (fits n (getD xs k no-link .site) (getD xs k no-link .other)) (all-fit-bad n i k xs (omega arith) e) ]
+  | inl p ↦ and-right (all-fit n xs k) (fits n (getD xs k no-link .site) (getD xs k no-link .other)) (ap (λ j. fits n (getD xs j no-link .site) (getD xs j no-link .other)) (sym p) ∙ e)
+  | inr p ↦ and-left (all-fit n xs k) (fits n (getD xs k no-link .site) (getD xs k no-link .other)) (all-fit-bad n i k xs (omega arith) e)
+]
 
 pub all-fit-same : (n k : ℕ) (xs ys : List Link)
     → ((i : ℕ) → i < k → fits n (getD ys i no-link .site) (getD ys i no-link .other) ≡ fits n (getD xs i no-link .site) (getD xs i no-link .other))
@@ -331,16 +353,16 @@ unfolding all-fit
 all-fit-same n zero xs ys e = refl
 all-fit-same n (suc k) xs ys e =
     ap (λ t. t && fits n (getD ys k no-link .site) (getD ys k no-link .other)) (all-fit-same n k xs ys (λ i h. e i (omega arith)))
-      ∙ ap (λ t. all-fit n xs k && t) (e k (omega arith))
+    ∙ ap (λ t. all-fit n xs k && t) (e k (omega arith))
 
 -- a new entry
 pub all-fit-new : (n k : ℕ) (xs : List Link) (l : Link) → k < length xs
     → all-fit n (set xs k l) (k + 1) ≡ (all-fit n xs k && fits n (l .site) (l .other))
 all-fit-new n k xs l h =
     all-fit-more n k (set xs k l)
-      ∙ ap (λ t. t && fits n (getD (set xs k l) k no-link .site) (getD (set xs k l) k no-link .other))
-          (all-fit-same n k xs (set xs k l) (λ i less. ap (λ (x : Link). fits n (x .site) (x .other)) (getD-set-other xs k i l no-link (omega arith))))
-      ∙ ap (λ (x : Link). all-fit n xs k && fits n (x .site) (x .other)) (getD-set-same xs k l no-link h)
+    ∙ ap (λ t. t && fits n (getD (set xs k l) k no-link .site) (getD (set xs k l) k no-link .other))
+    (all-fit-same n k xs (set xs k l) (λ i less. ap (λ (x : Link). fits n (x .site) (x .other)) (getD-set-other xs k i l no-link (omega arith))))
+    ∙ ap (λ (x : Link). all-fit n xs k && fits n (x .site) (x .other)) (getD-set-same xs k l no-link h)
 
 -- an entry changed in its number alone
 pub all-fit-raised : (n k i c : ℕ) (xs : List Link) → i < length xs
@@ -348,6 +370,7 @@ pub all-fit-raised : (n k i c : ℕ) (xs : List Link) → i < length xs
 all-fit-raised n k i c xs h =
     let l : Link = record { site = getD xs i no-link .site; other = getD xs i no-link .other; count = c } in
     all-fit-same n k xs (set xs i l) (λ j less. elim (cases-eq j i) [
-        inl p ↦ ap (λ (x : Link). fits n (x .site) (x .other)) (ap (λ y. getD (set xs i l) y no-link) p ∙ getD-set-same xs i l no-link h)
-                  ∙ ap (λ y. fits n (getD xs y no-link .site) (getD xs y no-link .other)) (sym p)
-      | inr p ↦ ap (λ (x : Link). fits n (x .site) (x .other)) (getD-set-other xs i j l no-link p) ])
+      | inl p ↦ ap (λ (x : Link). fits n (x .site) (x .other)) (ap (λ y. getD (set xs i l) y no-link) p ∙ getD-set-same xs i l no-link h)
+          ∙ ap (λ y. fits n (getD xs y no-link .site) (getD xs y no-link .other)) (sym p)
+      | inr p ↦ ap (λ (x : Link). fits n (x .site) (x .other)) (getD-set-other xs i j l no-link p)
+    ])

@@ -23,13 +23,15 @@ up-is w v = elim (cases-lt v w) [ inl l ↦ inl (l, up-below w v l) | inr l ↦ 
 
 pub up-lt : (w j k : ℕ) → j < k → up w j < up w k
 up-lt w j k h = elim (up-is w j) [
-    inl a ↦ elim (up-is w k) [ inl b ↦ omega arith | inr b ↦ omega arith ]
-  | inr a ↦ elim (up-is w k) [ inl b ↦ omega arith | inr b ↦ omega arith ] ]
+  | inl a ↦ elim (up-is w k) [ inl b ↦ omega arith | inr b ↦ omega arith ]
+  | inr a ↦ elim (up-is w k) [ inl b ↦ omega arith | inr b ↦ omega arith ]
+]
 
 pub up-le : (w j k : ℕ) → j ≤ k → up w j ≤ up w k
 up-le w j k h = elim (up-is w j) [
-    inl a ↦ elim (up-is w k) [ inl b ↦ omega arith | inr b ↦ omega arith ]
-  | inr a ↦ elim (up-is w k) [ inl b ↦ omega arith | inr b ↦ omega arith ] ]
+  | inl a ↦ elim (up-is w k) [ inl b ↦ omega arith | inr b ↦ omega arith ]
+  | inr a ↦ elim (up-is w k) [ inl b ↦ omega arith | inr b ↦ omega arith ]
+]
 
 pub up-back : (w j k : ℕ) → up w j ≤ up w k → j ≤ k
 up-back w j k h = elim (cases-lt k j) [ inl l ↦ omega (arith, up-lt w k j l) | inr l ↦ l ]

@@ -24,13 +24,15 @@ module _ {b : Shape} (ok : Sound b) where
 
   pub deg-le : (v : ℕ) → deg b v ≤ 500000
   deg-le v = elim (cases-lt v (b .sites)) [
-      inl l ↦ omega (arith, deg-is b v, ok .total, sum-term (b .sites) v (b .s) l, sum-term (b .sites) v (row-total b) l)
-    | inr l ↦ omega (arith, deg-off v l) ]
+    | inl l ↦ omega (arith, deg-is b v, ok .total, sum-term (b .sites) v (b .s) l, sum-term (b .sites) v (row-total b) l)
+    | inr l ↦ omega (arith, deg-off v l)
+  ]
 
   pub m-deg : (v u : ℕ) → b .m v u ≤ deg b v
   m-deg v u = elim (cases-lt u (b .sites)) [
-      inl l ↦ omega (arith, deg-is b v, sum-term (b .sites) u (b .m v) l)
-    | inr l ↦ omega (arith, ok .off v u l) ]
+    | inl l ↦ omega (arith, deg-is b v, sum-term (b .sites) u (b .m v) l)
+    | inr l ↦ omega (arith, ok .off v u l)
+  ]
 
   pub s-deg : (v : ℕ) → b .s v ≤ deg b v
   s-deg v = omega (arith, deg-is b v)

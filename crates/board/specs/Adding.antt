@@ -29,9 +29,9 @@ list-checks n = record { row = row.Limit; when = λ p. (p ≡ 0) × Beyond 1 409
 abbrev pub add-checks : LinkList → ℕ → End → ℕ → List Check
 add-checks x a b k =
     record { row = row.Limit; when = λ p. (p ≡ 0) × ((k < 1) ⊎ (500000 < all-links (shape-of x) + weight b k)) }
-  ∷ record { row = row.Site; when = λ p. Misfit (x .sites) a b p }
-  ∷ record { row = row.ListFull; when = λ p. (p ≡ 0) × (x .held ≡ 4096) }
-  ∷ []
+    ∷ record { row = row.Site; when = λ p. Misfit (x .sites) a b p }
+    ∷ record { row = row.ListFull; when = λ p. (p ≡ 0) × (x .held ≡ 4096) }
+    ∷ []
 
 -- a new list has no links
 abbrev pub Made : ℕ → Result LinkList Refusal → Type 0

@@ -15,11 +15,11 @@ use Rattle.board.specs.Shape.{Shape}
 use Rattle.board.specs.declared.link.Link.{Link}
 use Rattle.board.specs.declared.link.End.{End}
 use Rattle.board.specs.declared.link.End.the-variants.{Site, Drain}
-use Rattle.board.specs.Links.{no-link, between, drained, m-of, s-of, alike, all-fit, Misfit}
+use Rattle.board.specs.Links.{no-link, between, to-drain, m-of, s-of, alike, all-fit, Misfit}
 
 -- one cut: its links are taken away, and what remains is never below 0
 unfoldable pub cut-by : Shape → Link → Shape
-cut-by x l = record { sites = x .sites; m = λ u v. x .m u v - between l u v; s = λ v. x .s v - drained l v }
+cut-by x l = record { sites = x .sites; m = λ u v. x .m u v - between l u v; s = λ v. x .s v - to-drain l v }
 
 -- the first n entries of xs taken away
 abbrev pub lessened : Shape → ℕ → List Link → Shape
@@ -46,10 +46,10 @@ New xs n a b = (i : ℕ) → i < n → alike (getD xs i no-link .site) (getD xs 
 abbrev pub cut-checks : Shape → ℕ → List Link → ℕ → End → ℕ → List Check
 cut-checks x n xs a b k =
     record { row = row.Limit; when = λ p. (p ≡ 0) × (k < 1) }
-  ∷ record { row = row.Site; when = λ p. Misfit (x .sites) a b p }
-  ∷ record { row = row.CutFull; when = λ p. (p ≡ 0) × (n ≡ 32) × New xs n a b }
-  ∷ record { row = row.FewLinks; when = λ p. (p ≡ 0) × (standing (lessened x n xs) a b < k) }
-  ∷ []
+    ∷ record { row = row.Site; when = λ p. Misfit (x .sites) a b p }
+    ∷ record { row = row.CutFull; when = λ p. (p ≡ 0) × (n ≡ 32) × New xs n a b }
+    ∷ record { row = row.FewLinks; when = λ p. (p ≡ 0) × (standing (lessened x n xs) a b < k) }
+    ∷ []
 
 -- k more links in an entry
 abbrev pub raised : Link → ℕ → Link
@@ -59,11 +59,11 @@ raised l k = record { site = l .site; other = l .other; count = l .count + k }
 abbrev pub Entered : ℕ → List Link → ℕ → List Link → ℕ → End → ℕ → Type 0
 Entered n xs n1 ys a b k =
     (New xs n a b × (n1 ≡ n + 1) × (ys ≡ set xs n (record { site = a; other = b; count = k })))
-  ⊎ ((i : ℕ) × (i < n) × (alike (getD xs i no-link .site) (getD xs i no-link .other) a b ≡ true) × (n1 ≡ n) × (ys ≡ set xs i (raised (getD xs i no-link) k)))
+    ⊎ ((i : ℕ) × (i < n) × (alike (getD xs i no-link .site) (getD xs i no-link .other) a b ≡ true) × (n1 ≡ n) × (ys ≡ set xs i (raised (getD xs i no-link) k)))
 
 -- a cut on x is made: its links go too, unless the layer is idle for an entry that is not on the board below; or nothing changes
 abbrev pub Cutting : Shape → ℕ → List Link → ℕ → List Link → ℕ → End → ℕ → Result Unit Refusal → Type 0
 Cutting x n xs n1 ys a b k (Ok _) = Passed (cut-checks x n xs a b k) × Entered n xs n1 ys a b k
-  × (all-fit (x .sites) xs n ≡ true → cut-of x n1 ys ≡ cut-by (cut-of x n xs) (record { site = a; other = b; count = k }))
-  × (all-fit (x .sites) xs n ≡ false → cut-of x n1 ys ≡ x)
+    × (all-fit (x .sites) xs n ≡ true → cut-of x n1 ys ≡ cut-by (cut-of x n xs) (record { site = a; other = b; count = k }))
+    × (all-fit (x .sites) xs n ≡ false → cut-of x n1 ys ≡ x)
 Cutting x n xs n1 ys a b k (Err e) = Refused (cut-checks x n xs a b k) part.Cut e × (n1 ≡ n) × (ys ≡ xs)

@@ -46,8 +46,8 @@ Earth-on b (Some w) = (w < b .sites) × (1 < b .sites)
 abbrev pub earth-checks : Shape → Option ℕ → ℕ → List Check
 earth-checks b o w =
     record { row = row.Site; when = λ p. (p ≡ w) × (b .sites ≤ w) }
-  ∷ record { row = row.LayerSet; when = λ p. (p ≡ 0) × (Set o ⊎ (b .sites ≡ 1)) }
-  ∷ []
+    ∷ record { row = row.LayerSet; when = λ p. (p ≡ 0) × (Set o ⊎ (b .sites ≡ 1)) }
+    ∷ []
 
 -- the layer on b, set to o, is set to o1: w is earthed, or nothing changes
 abbrev pub Earthing : Shape → Option ℕ → Option ℕ → ℕ → Result Unit Refusal → Type 0

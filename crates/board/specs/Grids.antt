@@ -42,7 +42,7 @@ unfoldable pub grid-of : ℕ → ℕ → Shape
 grid-of rows columns = record {
   sites = rows * columns;
   m = λ u v. cond (ltb u (rows * columns) && ltb v (rows * columns))
-    (one (neighbours (row-of columns u) (column-of columns u) (row-of columns v) (column-of columns v))) 0;
+      (one (neighbours (row-of columns u) (column-of columns u) (row-of columns v) (column-of columns v))) 0;
   s = λ v. cond (ltb v (rows * columns)) (missing rows columns (row-of columns v) (column-of columns v)) 0;
 }
 
@@ -56,5 +56,5 @@ pub record Placed (rows columns : ℕ) : Type 0 where
   pub column-back : (r c : ℕ) → c < columns → column-of columns (site-at columns r c) ≡ c
   pub site-back : (v : ℕ) → site-at columns (row-of columns v) (column-of columns v) ≡ v
   pub links : (r c p q : ℕ) → r < rows → c < columns → p < rows → q < columns
-    → grid-of rows columns .m (site-at columns r c) (site-at columns p q) ≡ one (neighbours r c p q)
+      → grid-of rows columns .m (site-at columns r c) (site-at columns p q) ≡ one (neighbours r c p q)
   pub drain : (r c : ℕ) → r < rows → c < columns → grid-of rows columns .s (site-at columns r c) ≡ missing rows columns r c

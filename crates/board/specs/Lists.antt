@@ -1,15 +1,15 @@
 -- What a link list means.
-use mathlib.Core.Path.{_≡_}
 use mathlib.Core.List.{List}
 use mathlib.Core.Bool.{cond}
-use Prim.Native.Nat.{ℕ, _+_, _≤_}
+use Prim.Native.Nat.{ℕ, _+_}
 use lib.Dec.{ltb}
 use Rattle.std.specs.declared.option.Option.{Option}
 use Rattle.std.specs.declared.option.Option.the-variants.{Some, None}
 use Rattle.board.specs.Shape.{Shape}
 use Rattle.board.specs.declared.link.Link.{Link}
-use Rattle.board.specs.Links.{m-of, s-of, between, drained}
+use Rattle.board.specs.Links.{m-of, s-of, between, to-drain}
 
+-- n sites, and the links of the first k records
 abbrev pub listed : ℕ → ℕ → List Link → Shape
 listed n k xs = record { sites = n; m = m-of xs k; s = s-of xs k }
 
@@ -18,7 +18,7 @@ unfoldable pub linked : Shape → Link → Shape
 linked b l = record {
   sites = b .sites;
   m = λ u v. b .m u v + between l u v;
-  s = λ v. b .s v + drained l v;
+  s = λ v. b .s v + to-drain l v;
 }
 
 -- the lesser of two sites, the second only from j on

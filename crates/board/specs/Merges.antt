@@ -56,8 +56,8 @@ Merge-on x (Some p) = (p .a < x .sites) × (p .b < x .sites) × (p .a ≡ p .b �
 abbrev pub merge-checks : Shape → Option Pair → ℕ → ℕ → List Check
 merge-checks x o a b =
     record { row = row.Site; when = λ p. Misfit (x .sites) a (Site b) p }
-  ∷ record { row = row.LayerSet; when = λ p. (p ≡ 0) × Set o }
-  ∷ []
+    ∷ record { row = row.LayerSet; when = λ p. (p ≡ 0) × Set o }
+    ∷ []
 
 -- the layer on x, set to o, is set to o1: a is merged into b, or nothing changes
 abbrev pub Merging : Shape → Option Pair → Option Pair → ℕ → ℕ → Result Unit Refusal → Type 0

@@ -37,13 +37,25 @@ impl<B: Board> Earth<B> {
     {
         let n = self.below.count();
         if w >= n {
-            return Err(Refusal { row: Row::Site, place: w as u64, part: Part::Earth });
+            return Err(Refusal {
+                row: Row::Site,
+                place: w as u64,
+                part: Part::Earth,
+            });
         }
         if let Some(_) = self.site {
-            return Err(Refusal { row: Row::LayerSet, place: 0, part: Part::Earth });
+            return Err(Refusal {
+                row: Row::LayerSet,
+                place: 0,
+                part: Part::Earth,
+            });
         }
         if n == 1 {
-            return Err(Refusal { row: Row::LayerSet, place: 0, part: Part::Earth });
+            return Err(Refusal {
+                row: Row::LayerSet,
+                place: 0,
+                part: Part::Earth,
+            });
         }
         self.site = Some(w);
         Ok(())
@@ -51,7 +63,8 @@ impl<B: Board> Earth<B> {
 
     // Lifts the layer off and lays it on another board; gives back the board that it stood on.
     pub fn lay_on<C: Board>(self, board: C) -> (Earth<C>, B)
-        ensures { λ r. ⌜ (r .0 .below ≡ board) × (r .0 .site ≡ self .site) × (r .1 ≡ self .below) ⌝ }
+        ensures parts { λ r. ⌜ (r .0 .below ≡ board) × (r .0 .site ≡ self .site) × (r .1 ≡ self .below) ⌝ }
+        ensures shape { λ r. ⌜ earth-of (C·Board .shape (r .0 .below)) (r .0 .site) ≡ earth-of (C·Board .shape board) (self .site) ⌝ }
     {
         let Earth { below, site } = self;
         (Earth { below: board, site }, below)

@@ -1,7 +1,7 @@
 // The grid: a board of rows and columns.
 ghost use mathlib.Core.Path.{_≡_};
 ghost use Prim.Native.Nat.{ℕ, _*_, _≤_, _<_};
-ghost use Rattle.refusal.specs.declared.Part.the-variants.{Board as BoardPart};
+ghost use Rattle.refusal.specs.declared.Part.the-variants as parts;
 ghost use Rattle.refusal.specs.Table.{Passed, Refused, In-order, rows as rows-of};
 ghost use Rattle.std.specs.declared.result.Result.the-variants.{Ok, Err};
 ghost use Rattle.board.specs.Shape.{NextIs};
@@ -22,10 +22,14 @@ pub struct Grid {
 impl Grid {
     // The grid of these sides.
     pub fn new(rows: usize, columns: usize) -> Result<Grid, Refusal>
-        ensures { λ r. ⌜ elim r [ Ok g ↦ Passed (grid-checks rows columns) × (g .rows ≡ rows) × (g .columns ≡ columns) × Placed rows columns | Err e ↦ Refused (grid-checks rows columns) BoardPart e ] ⌝ }
+        ensures { λ r. ⌜ elim r [ Ok g ↦ Passed (grid-checks rows columns) × (g .rows ≡ rows) × (g .columns ≡ columns) × (grid-of (g .rows) (g .columns) ≡ grid-of rows columns) × Placed rows columns | Err e ↦ Refused (grid-checks rows columns) parts.Board e ] ⌝ }
     {
         if rows < 1 || rows > 64 || columns < 1 || columns > 64 {
-            return Err(Refusal { row: Row::Limit, place: 0, part: Part::Board });
+            return Err(Refusal {
+                row: Row::Limit,
+                place: 0,
+                part: Part::Board,
+            });
         }
         Ok(Grid { rows, columns })
     }
@@ -94,7 +98,12 @@ pub impl Board for Grid as GridBoard {
         if u >= n || v >= n {
             return 0;
         }
-        one_if(are_neighbours(u / self.columns, u % self.columns, v / self.columns, v % self.columns))
+        one_if(are_neighbours(
+            u / self.columns,
+            u % self.columns,
+            v / self.columns,
+            v % self.columns,
+        ))
     }
 
     fn drain(&self, v: usize) -> u32 {
@@ -103,7 +112,10 @@ pub impl Board for Grid as GridBoard {
         }
         let row = v / self.columns;
         let column = v % self.columns;
-        one_if(row == 0) + one_if(row + 1 == self.rows) + one_if(column == 0) + one_if(column + 1 == self.columns)
+        one_if(row == 0)
+            + one_if(row + 1 == self.rows)
+            + one_if(column == 0)
+            + one_if(column + 1 == self.columns)
     }
 
     fn next(&self, v: usize, j: usize) -> Option<usize> {

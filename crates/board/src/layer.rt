@@ -21,5 +21,9 @@ pub(crate) fn next_but<B: Board>(below: &B, w: usize, v: usize, j: usize) -> Opt
     let Some(u) = below.next(v, j) else {
         return None;
     };
-    if u == w { below.next(v, w + 1) } else { Some(u) }
+    if u == w {
+        below.next(v, w + 1)
+    } else {
+        Some(u)
+    }
 }

@@ -2,7 +2,7 @@
 ghost use mathlib.Core.Path.{_≡_};
 ghost use Prim.Native.Nat.{ℕ, _≤_};
 ghost use lib.ListN.{length};
-ghost use Rattle.board.specs.Links.{between, drained, far, alike, weight, Found, Fitting, fits, all-fit, Low, m-of, s-of};
+ghost use Rattle.board.specs.Links.{between, to-drain, far, alike, weight, Found, Fitting, all-fit, Low, m-of, s-of};
 
 // Where links of a site lead: to another site, or to the drain.
 #[derive(Clone, Copy)]
@@ -34,7 +34,7 @@ pub(crate) fn links_of(l: Link, u: usize, v: usize) -> u32
 
 // The links of `l` between `v` and the drain.
 pub(crate) fn drain_of(l: Link, v: usize) -> u32
-    ensures { λ r. ⌜ r ≡ drained l v ⌝ }
+    ensures { λ r. ⌜ r ≡ to-drain l v ⌝ }
 {
     match l.other {
         End::Site(_) => 0,

@@ -46,10 +46,18 @@ impl<B: Board> Merge<B> {
         ensures set { λ r. ⌜ Merging (B·Board .shape (now (self .entry) .below)) (now (self .entry) .pair) (now (self .exit) .pair) a b r ⌝ }
     {
         if let Some(site) = misfit(self.below.count(), a, End::Site(b)) {
-            return Err(Refusal { row: Row::Site, place: site as u64, part: Part::Merge });
+            return Err(Refusal {
+                row: Row::Site,
+                place: site as u64,
+                part: Part::Merge,
+            });
         }
         if let Some(_) = self.pair {
-            return Err(Refusal { row: Row::LayerSet, place: 0, part: Part::Merge });
+            return Err(Refusal {
+                row: Row::LayerSet,
+                place: 0,
+                part: Part::Merge,
+            });
         }
         self.pair = Some(Pair { a, b });
         Ok(())
@@ -57,7 +65,8 @@ impl<B: Board> Merge<B> {
 
     // Lifts the layer off and lays it on another board; gives back the board that it stood on.
     pub fn lay_on<C: Board>(self, board: C) -> (Merge<C>, B)
-        ensures { λ r. ⌜ (r .0 .below ≡ board) × (r .0 .pair ≡ self .pair) × (r .1 ≡ self .below) ⌝ }
+        ensures parts { λ r. ⌜ (r .0 .below ≡ board) × (r .0 .pair ≡ self .pair) × (r .1 ≡ self .below) ⌝ }
+        ensures shape { λ r. ⌜ merge-of (C·Board .shape (r .0 .below)) (r .0 .pair) ≡ merge-of (C·Board .shape board) (self .pair) ⌝ }
     {
         let Merge { below, pair } = self;
         (Merge { below: board, pair }, below)
@@ -79,7 +88,11 @@ impl<B: Board> Merge<B> {
             return None;
         };
         let n = self.below.count();
-        if pair.a < n && pair.b < n && pair.a != pair.b { Some(pair) } else { None }
+        if pair.a < n && pair.b < n && pair.a != pair.b {
+            Some(pair)
+        } else {
+            None
+        }
     }
 }
 
@@ -162,7 +175,13 @@ pub impl<B: Board> Board for Merge<B> as MergeBoard {
         if u >= n || v >= n {
             return 0;
         }
-        joined_links(&self.below, pair.a, pair.b, lifted(pair.a, u), lifted(pair.a, v))
+        joined_links(
+            &self.below,
+            pair.a,
+            pair.b,
+            lifted(pair.a, u),
+            lifted(pair.a, v),
+        )
     }
 
     fn drain(&self, v: usize) -> u32 {
@@ -183,7 +202,13 @@ pub impl<B: Board> Board for Merge<B> as MergeBoard {
         if v >= n || j >= n {
             return None;
         }
-        let Some(u) = joined_next(&self.below, pair.a, pair.b, lifted(pair.a, v), lifted(pair.a, j)) else {
+        let Some(u) = joined_next(
+            &self.below,
+            pair.a,
+            pair.b,
+            lifted(pair.a, v),
+            lifted(pair.a, j),
+        ) else {
             return None;
         };
         if u < pair.a { Some(u) } else { Some(u - 1) }

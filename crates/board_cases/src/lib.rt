@@ -54,16 +54,43 @@ mod boards {
     fn a_grid_by_rows_and_columns() -> Result<(), Fail> {
         let grid = Grid::new(2, 3)?;
         check_eq(grid.count(), 6)?;
-        check_eq((grid.links(0, 1), grid.links(2, 3), grid.links(1, 4), grid.links(0, 0)), (1, 0, 1, 0))?;
+        check_eq(
+            (
+                grid.links(0, 1),
+                grid.links(2, 3),
+                grid.links(1, 4),
+                grid.links(0, 0),
+            ),
+            (1, 0, 1, 0),
+        )?;
         check_eq((grid.drain(0), grid.drain(1), grid.drain(6)), (2, 1, 0))?;
-        check_eq((grid.next(4, 0), grid.next(4, 2), grid.next(4, 4), grid.next(4, 6)), (Some(1), Some(3), Some(5), None))?;
-        check_eq((grid.next(6, 0), grid.links(6, 5), degree(&grid, 4)), (None, 0, 4))
+        check_eq(
+            (
+                grid.next(4, 0),
+                grid.next(4, 2),
+                grid.next(4, 4),
+                grid.next(4, 6),
+            ),
+            (Some(1), Some(3), Some(5), None),
+        )?;
+        check_eq(
+            (grid.next(6, 0), grid.links(6, 5), degree(&grid, 4)),
+            (None, 0, 4),
+        )
     }
 
     #[test]
     fn the_smallest_grid_drains_four_ways() -> Result<(), Fail> {
         let grid = Grid::new(1, 1)?;
-        check_eq((grid.count(), grid.drain(0), grid.next(0, 0), degree(&grid, 0)), (1, 4, None, 4))
+        check_eq(
+            (
+                grid.count(),
+                grid.drain(0),
+                grid.next(0, 0),
+                degree(&grid, 0),
+            ),
+            (1, 4, None, 4),
+        )
     }
 
     #[test]
@@ -83,18 +110,48 @@ mod boards {
         list.add(2, End::Site(0), 3)?;
         list.add(0, End::Site(2), 4)?;
         list.add(3, End::Drain, 5)?;
-        check_eq((list.links(0, 2), list.links(2, 0), list.drain(3), list.drain(2)), (7, 7, 5, 0))?;
-        check_eq((list.next(2, 0), list.next(2, 1), list.next(0, 1), list.next(3, 0)), (Some(0), None, Some(2), None))?;
-        check_eq((degree(&list, 0), degree(&list, 3), list.links(4, 0), list.drain(9)), (7, 5, 0, 0))
+        check_eq(
+            (
+                list.links(0, 2),
+                list.links(2, 0),
+                list.drain(3),
+                list.drain(2),
+            ),
+            (7, 7, 5, 0),
+        )?;
+        check_eq(
+            (
+                list.next(2, 0),
+                list.next(2, 1),
+                list.next(0, 1),
+                list.next(3, 0),
+            ),
+            (Some(0), None, Some(2), None),
+        )?;
+        check_eq(
+            (
+                degree(&list, 0),
+                degree(&list, 3),
+                list.links(4, 0),
+                list.drain(9),
+            ),
+            (7, 5, 0, 0),
+        )
     }
 
     #[test]
     fn numbers_before_sites() -> Result<(), Fail> {
         let mut list = LinkList::new(1)?;
         check_eq(told(list.add(0, End::Drain, 0)), (2, 0, Part::Board))?;
-        check_eq(told(list.add(0, End::Site(0), 250_001)), (2, 0, Part::Board))?;
+        check_eq(
+            told(list.add(0, End::Site(0), 250_001)),
+            (2, 0, Part::Board),
+        )?;
         check_eq(told(list.add(7, End::Drain, 500_001)), (2, 0, Part::Board))?;
-        check_eq(told(list.add(0, End::Site(0), 250_000)), (3, 0, Part::Board))?;
+        check_eq(
+            told(list.add(0, End::Site(0), 250_000)),
+            (3, 0, Part::Board),
+        )?;
         check_eq(told(list.add(0, End::Drain, 500_000)), (0, 0, Part::Sheet))?;
         check_eq(told(list.add(0, End::Drain, 1)), (2, 0, Part::Board))?;
         check_eq(list.drain(0), 500_000)
@@ -107,8 +164,14 @@ mod boards {
         check_eq(told(list.add(0, End::Site(3), 1)), (3, 3, Part::Board))?;
         check_eq(told(list.add(9, End::Site(8), 1)), (3, 9, Part::Board))?;
         check_eq(told(list.add(2, End::Site(2), 1)), (3, 2, Part::Board))?;
-        check_eq(told(list.add(9_999_999_999_999, End::Drain, 1)), (3, 9_999_999_999_999, Part::Board))?;
-        check_eq((list.drain(0), list.links(0, 2), list.next(0, 0)), (0, 0, None))
+        check_eq(
+            told(list.add(9_999_999_999_999, End::Drain, 1)),
+            (3, 9_999_999_999_999, Part::Board),
+        )?;
+        check_eq(
+            (list.drain(0), list.links(0, 2), list.next(0, 0)),
+            (0, 0, None),
+        )
     }
 
     fn fill(list: &mut LinkList) -> Result<(), Refusal> {
@@ -130,8 +193,19 @@ mod boards {
     #[test]
     fn a_board_of_a_client() -> Result<(), Fail> {
         let ring = Ring::new(5)?;
-        check_eq((ring.links(0, 4), ring.links(1, 3), ring.next(0, 2), ring.next(4, 0)), (1, 0, Some(4), Some(0)))?;
-        check_eq((degree(&ring, 0), degree(&ring, 1), ring.count()), (3, 2, 5))
+        check_eq(
+            (
+                ring.links(0, 4),
+                ring.links(1, 3),
+                ring.next(0, 2),
+                ring.next(4, 0),
+            ),
+            (1, 0, Some(4), Some(0)),
+        )?;
+        check_eq(
+            (degree(&ring, 0), degree(&ring, 1), ring.count()),
+            (3, 2, 5),
+        )
     }
 }
 
@@ -178,7 +252,14 @@ mod layers {
     }
 
     fn row<B: Board>(board: &B, u: usize) -> [u32; 6] {
-        [board.links(u, 0), board.links(u, 1), board.links(u, 2), board.links(u, 3), board.drain(u), degree(board, u)]
+        [
+            board.links(u, 0),
+            board.links(u, 1),
+            board.links(u, 2),
+            board.links(u, 3),
+            board.drain(u),
+            degree(board, u),
+        ]
     }
 
     #[test]
@@ -190,7 +271,10 @@ mod layers {
         check_eq(row(&pile, 2), [0, 1, 0, 0, 3, 4])?;
         check_eq(row(&pile, 3), [0, 1, 0, 0, 3, 4])?;
         check_eq(row(&pile, 4), [0, 0, 0, 0, 0, 0])?;
-        check_eq((pile.next(1, 0), pile.next(1, 3), pile.next(1, 4)), (Some(2), Some(3), None))?;
+        check_eq(
+            (pile.next(1, 0), pile.next(1, 3), pile.next(1, 4)),
+            (Some(2), Some(3), None),
+        )?;
         check_eq((pile.next(0, 0), pile.next(4, 0)), (None, None))
     }
 
@@ -215,7 +299,10 @@ mod layers {
         check_eq(told(merge.merge(1, 1)), (3, 1, Part::Merge))?;
         check_eq(told(merge.merge(1, 0)), (0, 0, Part::Sheet))?;
         check_eq(told(merge.merge(0, 1)), (19, 0, Part::Merge))?;
-        check_eq((merge.count(), merge.drain(0), merge.next(0, 0)), (1, 6, None))
+        check_eq(
+            (merge.count(), merge.drain(0), merge.next(0, 0)),
+            (1, 6, None),
+        )
     }
 
     #[test]

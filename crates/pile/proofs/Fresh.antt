@@ -53,13 +53,22 @@ pub first-refused : (x : Shape) (xs : List Link) (a : ℕ) (b : End) (k : ℕ) (
 first-refused x xs a b k e h = record { by = go (h .by); from = h .from } where
   go : First (cut-checks x 0 xs a b k) (e .row) (e .place) → First (first-cut-checks x a b k) (e .row) (e .place)
   go (inl f) = inl f
-  go (inr f) = inr (f .0, elim (f .1) [
-      inl t ↦ inl t
-    | inr t ↦ inr (t .0, elim (t .1) [
-          inl u ↦ absurd (omega (arith, u .1 .1))
-        | inr u ↦ elim (u .1) [
-              inl v ↦ inl (v .0, (v .1 .0, omega (arith, all-stand x xs a b)))
-            | inr v ↦ absurd (v .1) ] ]) ])
+  go (inr f) = inr (
+    f .0,
+    elim (f .1) [
+      | inl t ↦ inl t
+      | inr t ↦ inr (
+        t .0,
+        elim (t .1) [
+          | inl u ↦ absurd (omega (arith, u .1 .1))
+          | inr u ↦ elim (u .1) [
+            | inl v ↦ inl (v .0, (v .1 .0, omega (arith, all-stand x xs a b)))
+            | inr v ↦ absurd (v .1)
+          ]
+        ],
+      )
+    ],
+  )
 
 pub first-passed : (x : Shape) (xs : List Link) (a : ℕ) (b : End) (k : ℕ) → Passed (cut-checks x 0 xs a b k) → Passed (first-cut-checks x a b k)
 first-passed x xs a b k h = (h .0, (h .1 .0, ((λ p f. h .1 .1 .1 .0 p (f .0, omega (arith, all-stand x xs a b))), tt)))
@@ -74,8 +83,9 @@ first-cut x y n n1 xs ys a b k e p q h =
 pub third : {C : Type 0} (x y z : Shape) (w : ℕ) (p : Pair) (l : Link) (shape : C → Shape) (r : Result C Refusal)
     → z ≡ earthed w x → y ≡ merged (p .a) (p .b) z → Passed (earth-checks x None w) → Passed (merge-checks z None (p .a) (p .b))
     → elim r as (λ t. Type 0) [
-        Ok e ↦ Passed (first-cut-checks y (l .site) (l .other) (l .count)) × (shape e ≡ cut-once y (l .site) (l .other) (l .count))
-      | Err e ↦ Refused (first-cut-checks y (l .site) (l .other) (l .count)) part.Cut e ]
+      | Ok e ↦ Passed (first-cut-checks y (l .site) (l .other) (l .count)) × (shape e ≡ cut-once y (l .site) (l .other) (l .count))
+      | Err e ↦ Refused (first-cut-checks y (l .site) (l .other) (l .count)) part.Cut e
+    ]
     → Piled x w p l shape r
 third x y z w p l shape (Ok c) ez ey pe pm h =
     h .1 ∙ ap (λ t. cut-by t l) (ey ∙ ap (merged (p .a) (p .b)) ez)

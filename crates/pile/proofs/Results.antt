@@ -35,19 +35,24 @@ three x e = ap (λ (y : Shape). y .sites) e
 
 pub earth-goes : (x : Shape) (e : Refusal) → x ≡ grid-of 1 3 → Refused (earth-checks x None 1) part.Earth e → ⊥
 earth-goes x e is h = elim (h .by) [
-    inl f ↦ omega (arith, three x is, f .1 .1)
+  | inl f ↦ omega (arith, three x is, f .1 .1)
   | inr f ↦ elim (f .1) [
-        inl g ↦ elim (g .1 .1) [ inl s ↦ s refl | inr s ↦ omega (arith, three x is) ]
-      | inr g ↦ g .1 ] ]
+    | inl g ↦ elim (g .1 .1) [ inl s ↦ s refl | inr s ↦ omega (arith, three x is) ]
+    | inr g ↦ g .1
+  ]
+]
 
 pub merge-goes : (x : Shape) (e : Refusal) → x ≡ grid-of 1 3 → Refused (merge-checks x None 2 0) part.Merge e → ⊥
 merge-goes x e is h = elim (h .by) [
-    inl f ↦ elim (f .1) [
-        inl g ↦ omega (arith, three x is, g .0)
-      | inr g ↦ elim (g .2) [ inl s ↦ omega (arith, three x is) | inr s ↦ omega arith ] ]
+  | inl f ↦ elim (f .1) [
+    | inl g ↦ omega (arith, three x is, g .0)
+    | inr g ↦ elim (g .2) [ inl s ↦ omega (arith, three x is) | inr s ↦ omega arith ]
+  ]
   | inr f ↦ elim (f .1) [
-        inl g ↦ g .1 .1 refl
-      | inr g ↦ g .1 ] ]
+    | inl g ↦ g .1 .1 refl
+    | inr g ↦ g .1
+  ]
+]
 
 pub is-grid : (r c : ℕ) → r ≡ 1 → c ≡ 3 → grid-of r c ≡ grid-of 1 3
 is-grid r c p q = ap (λ x. grid-of x c) p ∙ ap (grid-of 1) q
@@ -56,12 +61,15 @@ is-grid r c p q = ap (λ x. grid-of x c) p ∙ ap (grid-of 1) q
 pub add-goes : (x : LinkList) (b : Shape) (a : ℕ) (e : End) (k : ℕ) (r : Refusal) → shape-of x ≡ b → Fit (b .sites) a e → 1 ≤ k → all-links b + weight e k ≤ 500000 → x .held < 4096
     → Refused (add-checks x a e k) part.Board r → ⊥
 add-goes x b a e k r is fit one low room h = elim (h .by) [
-    inl f ↦ elim (f .1 .1) [ inl z ↦ omega arith | inr z ↦ omega (arith, ap all-links is) ]
+  | inl f ↦ elim (f .1 .1) [ inl z ↦ omega arith | inr z ↦ omega (arith, ap all-links is) ]
   | inr f ↦ elim (f .1) [
-        inl g ↦ (let P : ℕ → Type 0 = λ n. Misfit n a e (r .place) in fit-quiet (b .sites) a e fit (r .place) (subst P (ap (λ (y : Shape). y .sites) is) (g .1)))
-      | inr g ↦ elim (g .1) [
-            inl i ↦ omega (arith, i .1 .1)
-          | inr i ↦ i .1 ] ] ]
+    | inl g ↦ (let P : ℕ → Type 0 = λ n. Misfit n a e (r .place) in fit-quiet (b .sites) a e fit (r .place) (subst P (ap (λ (y : Shape). y .sites) is) (g .1)))
+    | inr g ↦ elim (g .1) [
+      | inl i ↦ omega (arith, i .1 .1)
+      | inr i ↦ i .1
+    ]
+  ]
+]
 
 -- the lists on the way to three sites in a row
 abbrev pub row-0 : Shape

@@ -30,18 +30,18 @@ cut-once x a b k = cut-by x (record { site = a; other = b; count = k })
 abbrev pub first-cut-checks : Shape → ℕ → End → ℕ → List Check
 first-cut-checks x a b k =
     record { row = row.Limit; when = λ p. (p ≡ 0) × (k < 1) }
-  ∷ record { row = row.Site; when = λ p. Misfit (x .sites) a b p }
-  ∷ record { row = row.FewLinks; when = λ p. (p ≡ 0) × (standing x a b < k) }
-  ∷ []
+    ∷ record { row = row.Site; when = λ p. Misfit (x .sites) a b p }
+    ∷ record { row = row.FewLinks; when = λ p. (p ≡ 0) × (standing x a b < k) }
+    ∷ []
 
 -- earth, merge and cut laid on x: all three take effect, or the first that refuses does so
 abbrev pub Piled : {C : Type 0} → Shape → ℕ → Pair → Link → (C → Shape) → Result C Refusal → Type 0
 Piled x w p l shape (Ok c) = shape c ≡ cut-by (merged (p .a) (p .b) (earthed w x)) l
 Piled x w p l shape (Err e) =
     Refused (earth-checks x None w) part.Earth e
-  ⊎ ((Passed (earth-checks x None w) × Refused (merge-checks (earthed w x) None (p .a) (p .b)) part.Merge e)
-  ⊎ (Passed (earth-checks x None w) × Passed (merge-checks (earthed w x) None (p .a) (p .b))
-      × Refused (first-cut-checks (merged (p .a) (p .b) (earthed w x)) (l .site) (l .other) (l .count)) part.Cut e))
+    ⊎ ((Passed (earth-checks x None w) × Refused (merge-checks (earthed w x) None (p .a) (p .b)) part.Merge e)
+    ⊎ (Passed (earth-checks x None w) × Passed (merge-checks (earthed w x) None (p .a) (p .b))
+    × Refused (first-cut-checks (merged (p .a) (p .b) (earthed w x)) (l .site) (l .other) (l .count)) part.Cut e))
 
 -- the same on a grid, which may refuse first
 abbrev pub On-grid : {C : Type 0} → ℕ → ℕ → ℕ → Pair → Link → (C → Shape) → Result C Refusal → Type 0
@@ -53,5 +53,5 @@ On-grid rows columns w p l shape (Err e) =
 abbrev pub row-of-three : Shape
 row-of-three =
     linked (linked (linked (linked (bare 3)
-      (record { site = 0; other = Site 1; count = 2 })) (record { site = 2; other = Site 1; count = 2 }))
-      (record { site = 0; other = Drain; count = 1 })) (record { site = 2; other = Drain; count = 1 })
+    (record { site = 0; other = Site 1; count = 2 })) (record { site = 2; other = Site 1; count = 2 }))
+    (record { site = 0; other = Drain; count = 1 })) (record { site = 2; other = Drain; count = 1 })

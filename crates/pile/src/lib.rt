@@ -3,7 +3,7 @@ ghost use mathlib.Core.Path.{_≡_};
 ghost use Prim.Native.Nat.{ℕ};
 ghost use Rattle.std.specs.declared.option.Option.the-variants.{None as Nothing};
 ghost use Rattle.std.specs.declared.result.Result.the-variants.{Ok, Err};
-ghost use Rattle.refusal.specs.declared.Part.the-variants as part;
+ghost use Rattle.refusal.specs.declared.Part.the-variants as parts;
 ghost use Rattle.refusal.specs.Table.{Passed, Refused};
 ghost use Rattle.board.specs.Earths.{earth-of, earthed, earth-checks};
 ghost use Rattle.board.specs.Merges.{merge-of, merged, merge-checks};
@@ -11,6 +11,7 @@ ghost use Rattle.board.specs.Cuts.{cut-of};
 ghost use Rattle.board.specs.Grids.{grid-of};
 ghost use Rattle.board.specs.Adding.{shape-of};
 ghost use Rattle.pile.specs.Piles.{cut-once, first-cut-checks, Piled, On-grid, row-of-three};
+
 pub mod worked;
 
 use board::Board;
@@ -30,7 +31,7 @@ use refusal::Refusal;
 
 // The board with `w` earthed.
 pub fn with_earth<B: Board + Drop>(board: B, w: usize) -> Result<Earth<B>, Refusal>
-    ensures { λ r. ⌜ elim r [ Ok e ↦ Passed (earth-checks (B·Board .shape board) Nothing w) × (earth-of (B·Board .shape (e .below)) (e .site) ≡ earthed w (B·Board .shape board)) | Err e ↦ Refused (earth-checks (B·Board .shape board) Nothing w) part.Earth e ] ⌝ }
+    ensures { λ r. ⌜ elim r [ Ok e ↦ Passed (earth-checks (B·Board .shape board) Nothing w) × (earth-of (B·Board .shape (e .below)) (e .site) ≡ earthed w (B·Board .shape board)) | Err e ↦ Refused (earth-checks (B·Board .shape board) Nothing w) parts.Earth e ] ⌝ }
 {
     let mut earth = Earth::idle(board);
     match earth.earth(w) {
@@ -41,7 +42,7 @@ pub fn with_earth<B: Board + Drop>(board: B, w: usize) -> Result<Earth<B>, Refus
 
 // The board with `a` merged into `b`.
 pub fn with_merge<B: Board + Drop>(board: B, a: usize, b: usize) -> Result<Merge<B>, Refusal>
-    ensures { λ r. ⌜ elim r [ Ok e ↦ Passed (merge-checks (B·Board .shape board) Nothing a b) × (merge-of (B·Board .shape (e .below)) (e .pair) ≡ merged a b (B·Board .shape board)) | Err e ↦ Refused (merge-checks (B·Board .shape board) Nothing a b) part.Merge e ] ⌝ }
+    ensures { λ r. ⌜ elim r [ Ok e ↦ Passed (merge-checks (B·Board .shape board) Nothing a b) × (merge-of (B·Board .shape (e .below)) (e .pair) ≡ merged a b (B·Board .shape board)) | Err e ↦ Refused (merge-checks (B·Board .shape board) Nothing a b) parts.Merge e ] ⌝ }
 {
     let mut merge = Merge::idle(board);
     match merge.merge(a, b) {
@@ -52,7 +53,7 @@ pub fn with_merge<B: Board + Drop>(board: B, a: usize, b: usize) -> Result<Merge
 
 // The board with `k` links of `a` and `b` cut.
 pub fn with_cut<B: Board + Drop>(board: B, a: usize, b: End, k: u64) -> Result<Cut<B>, Refusal>
-    ensures { λ r. ⌜ elim r [ Ok e ↦ Passed (first-cut-checks (B·Board .shape board) a b k) × (cut-of (B·Board .shape (e .below)) (e .held) (e .entries) ≡ cut-once (B·Board .shape board) a b k) | Err e ↦ Refused (first-cut-checks (B·Board .shape board) a b k) part.Cut e ] ⌝ }
+    ensures { λ r. ⌜ elim r [ Ok e ↦ Passed (first-cut-checks (B·Board .shape board) a b k) × (cut-of (B·Board .shape (e .below)) (e .held) (e .entries) ≡ cut-once (B·Board .shape board) a b k) | Err e ↦ Refused (first-cut-checks (B·Board .shape board) a b k) parts.Cut e ] ⌝ }
 {
     let mut cut = Cut::idle(board);
     match cut.cut(a, b, k) {
@@ -62,7 +63,12 @@ pub fn with_cut<B: Board + Drop>(board: B, a: usize, b: End, k: u64) -> Result<C
 }
 
 // Earth lowest, merge on it, cut on top.
-pub fn pile_up<B: Board + Drop>(board: B, w: usize, pair: Pair, link: Link) -> Result<Cut<Merge<Earth<B>>>, Refusal>
+pub fn pile_up<B: Board + Drop>(
+    board: B,
+    w: usize,
+    pair: Pair,
+    link: Link,
+) -> Result<Cut<Merge<Earth<B>>>, Refusal>
     ensures { λ r. ⌜ Piled (B·Board .shape board) w pair link (λ e. cut-of (merge-of (earth-of (B·Board .shape (e .below .below .below)) (e .below .below .site)) (e .below .pair)) (e .held) (e .entries)) r ⌝ }
 {
     let earth = with_earth(board, w)?;
@@ -71,7 +77,13 @@ pub fn pile_up<B: Board + Drop>(board: B, w: usize, pair: Pair, link: Link) -> R
 }
 
 // The pile on a grid.
-pub fn on_grid(rows: usize, columns: usize, w: usize, pair: Pair, link: Link) -> Result<Cut<Merge<Earth<Grid>>>, Refusal>
+pub fn on_grid(
+    rows: usize,
+    columns: usize,
+    w: usize,
+    pair: Pair,
+    link: Link,
+) -> Result<Cut<Merge<Earth<Grid>>>, Refusal>
     ensures { λ r. ⌜ On-grid rows columns w pair link (λ e. cut-of (merge-of (earth-of (grid-of (e .below .below .below .rows) (e .below .below .below .columns)) (e .below .below .site)) (e .below .pair)) (e .held) (e .entries)) r ⌝ }
 {
     let grid = Grid::new(rows, columns)?;

@@ -18,7 +18,13 @@ use refusal::Refusal;
 pub fn figures<B: Board>(board: &B) -> [u32; 5]
     ensures { λ r. ⌜ r ≡ figures-of (B·Board .shape (now (board .entry))) ⌝ }
 {
-    [board.links(0, 1), board.drain(0), board.drain(1), degree(board, 0), degree(board, 1)]
+    [
+        board.links(0, 1),
+        board.drain(0),
+        board.drain(1),
+        degree(board, 0),
+        degree(board, 1),
+    ]
 }
 
 // Grid 1×3 with 1 earthed.

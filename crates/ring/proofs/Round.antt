@@ -44,10 +44,12 @@ module _ (n : ℕ) where
 
   pub m-zero : (u v : ℕ) → (after n u ≡ v → ⊥) → (after n v ≡ u → ⊥) → ring-of n .m u v ≡ 0
   m-zero u v p q = elim (cases-lt u n) [
-      inl a ↦ elim (cases-lt v n) [
-          inl b ↦ m-in u v a b ∙ cond-false _ 1 0 (or-from (eqb (after n u) v) (eqb (after n v) u) (ne-eqb (after n u) v p) (ne-eqb (after n v) u q))
-        | inr b ↦ m-off u v b ]
-    | inr a ↦ m-off-left u v a ]
+    | inl a ↦ elim (cases-lt v n) [
+      | inl b ↦ m-in u v a b ∙ cond-false _ 1 0 (or-from (eqb (after n u) v) (eqb (after n v) u) (ne-eqb (after n u) v p) (ne-eqb (after n v) u q))
+      | inr b ↦ m-off u v b
+    ]
+    | inr a ↦ m-off-left u v a
+  ]
 
   pub m-one : (u v : ℕ) → u < n → v < n → (after n u ≡ v) ⊎ (after n v ≡ u) → ring-of n .m u v ≡ 1
   m-one u v a b (inl e) = m-in u v a b ∙ cond-true _ 1 0 (or-left (eqb (after n u) v) (eqb (after n v) u) (eq-eqb (after n u) v e))
@@ -55,15 +57,18 @@ module _ (n : ℕ) where
 
   m-sym : (u v : ℕ) → ring-of n .m u v ≡ ring-of n .m v u
   m-sym u v = elim (cases-lt u n) [
-      inl a ↦ elim (cases-lt v n) [
-          inl b ↦ m-in u v a b ∙ ap (λ t. cond t 1 0) (or-swap (eqb (after n u) v) (eqb (after n v) u)) ∙ sym (m-in v u b a)
-        | inr b ↦ m-off u v b ∙ sym (m-off-left v u b) ]
-    | inr a ↦ m-off-left u v a ∙ sym (m-off v u a) ]
+    | inl a ↦ elim (cases-lt v n) [
+      | inl b ↦ m-in u v a b ∙ ap (λ t. cond t 1 0) (or-swap (eqb (after n u) v) (eqb (after n v) u)) ∙ sym (m-in v u b a)
+      | inr b ↦ m-off u v b ∙ sym (m-off-left v u b)
+    ]
+    | inr a ↦ m-off-left u v a ∙ sym (m-off v u a)
+  ]
 
   m-two : (u v : ℕ) → ring-of n .m u v ≤ cond (eqb (after n u) v) 1 0 + cond (eqb (after n v) u) 1 0
   m-two u v = elim (cases-lt u n) [
-      inl a ↦ elim (cases-lt v n) [ inl b ↦ omega (arith, m-in u v a b, both (eqb (after n u) v) (eqb (after n v) u)) | inr b ↦ omega (arith, m-off u v b) ]
-    | inr a ↦ omega (arith, m-off-left u v a) ] where
+    | inl a ↦ elim (cases-lt v n) [ inl b ↦ omega (arith, m-in u v a b, both (eqb (after n u) v) (eqb (after n v) u)) | inr b ↦ omega (arith, m-off u v b) ]
+    | inr a ↦ omega (arith, m-off-left u v a)
+  ] where
     both : (p q : Bool) → cond (p || q) 1 0 ≤ cond p 1 0 + cond q 1 0
     both true true = omega arith
     both true false = omega arith
@@ -77,16 +82,21 @@ module _ (n : ℕ) where
   before-is : (u k : ℕ) → after n k ≡ u → k ≡ before u
   unfolding before
   before-is u k e = elim (after-is n k) [
-      inl a ↦ omega (arith, cond-true (eqb u 0) (n - 1) (u - 1) (eq-eqb u 0 (omega arith)))
-    | inr a ↦ omega (arith, cond-false (eqb u 0) (n - 1) (u - 1) (ne-eqb u 0 (λ z. omega arith))) ]
+    | inl a ↦ omega (arith, cond-true (eqb u 0) (n - 1) (u - 1) (eq-eqb u 0 (omega arith)))
+    | inr a ↦ omega (arith, cond-false (eqb u 0) (n - 1) (u - 1) (ne-eqb u 0 (λ z. omega arith)))
+  ]
 
   row-le : (u : ℕ) → row-total (ring-of n) u ≤ 2
   row-le u =
       let f : ℕ → ℕ = λ v. cond (eqb (after n u) v) 1 0 in
       let g : ℕ → ℕ = λ v. cond (eqb (after n v) u) 1 0 in
-      omega (arith, sum-up (ring-of n .sites) (ring-of n .m u) (λ v. f v + g v) (λ v h. m-two u v), sum-plus (ring-of n .sites) f g,
+      omega (
+        arith,
+        sum-up (ring-of n .sites) (ring-of n .m u) (λ v. f v + g v) (λ v h. m-two u v),
+        sum-plus (ring-of n .sites) f g,
         sum-only (ring-of n .sites) (after n u) 1 f (one-le _) (λ k ne. cond-false _ 1 0 (ne-eqb (after n u) k (λ e. ne (sym e)))),
-        sum-only (ring-of n .sites) (before u) 1 g (one-le _) (λ k ne. cond-false _ 1 0 (ne-eqb (after n k) u (λ e. ne (before-is u k e)))))
+        sum-only (ring-of n .sites) (before u) 1 g (one-le _) (λ k ne. cond-false _ 1 0 (ne-eqb (after n k) u (λ e. ne (before-is u k e)))),
+      )
 
   s-le : (v : ℕ) → ring-of n .s v ≤ 1
   unfolding ring-of
@@ -118,8 +128,8 @@ module _ (n : ℕ) where
       to-low = m-one 0 1 (omega arith) (omega arith) (inl (omega (arith, after-next n 0 (λ e. omega arith))));
       to-high = m-one 0 (n - 1) (omega arith) (omega arith) (inr (after-last n (n - 1) (omega arith)));
       no-other = no-other-at 0 1 (n - 1)
-        (λ k e. inl (omega (arith, after-next n 0 (λ z. omega arith))))
-        (λ k e. elim (after-is n k) [ inl a ↦ inr (omega arith) | inr a ↦ absurd (omega arith) ]);
+          (λ k e. inl (omega (arith, after-next n 0 (λ z. omega arith))))
+          (λ k e. elim (after-is n k) [ inl a ↦ inr (omega arith) | inr a ↦ absurd (omega arith) ]);
     }
 
     pub sides-last : Sides n (n - 1) 0 (n - 2)
@@ -128,8 +138,8 @@ module _ (n : ℕ) where
       to-low = m-one (n - 1) 0 (omega arith) (omega arith) (inl (after-last n (n - 1) (omega arith)));
       to-high = m-one (n - 1) (n - 2) (omega arith) (omega arith) (inr (omega (arith, after-next n (n - 2) (λ e. omega arith))));
       no-other = no-other-at (n - 1) 0 (n - 2)
-        (λ k e. inl (omega (arith, after-last n (n - 1) (omega arith))))
-        (λ k e. elim (after-is n k) [ inl a ↦ absurd (omega arith) | inr a ↦ inr (omega arith) ]);
+          (λ k e. inl (omega (arith, after-last n (n - 1) (omega arith))))
+          (λ k e. elim (after-is n k) [ inl a ↦ absurd (omega arith) | inr a ↦ inr (omega arith) ]);
     }
 
     pub sides-between : (v : ℕ) → (v ≡ 0 → ⊥) → (v ≡ n - 1 → ⊥) → v < n → Sides n v (v - 1) (v + 1)
@@ -138,6 +148,6 @@ module _ (n : ℕ) where
       to-low = m-one v (v - 1) on (omega arith) (inr (omega (arith, after-next n (v - 1) (λ e. omega arith), z)));
       to-high = m-one v (v + 1) on (omega (arith, l)) (inl (after-next n v (λ e. l (omega arith))));
       no-other = no-other-at v (v - 1) (v + 1)
-        (λ k e. inr (omega (arith, after-next n v (λ x. l (omega arith)))))
-        (λ k e. elim (after-is n k) [ inl a ↦ absurd (z (omega arith)) | inr a ↦ inl (omega arith) ]);
+          (λ k e. inr (omega (arith, after-next n v (λ x. l (omega arith)))))
+          (λ k e. elim (after-is n k) [ inl a ↦ absurd (z (omega arith)) | inr a ↦ inl (omega arith) ]);
     }

@@ -2,7 +2,7 @@
 ghost use mathlib.Core.Path.{_≡_};
 ghost use Prim.Native.Nat.{ℕ, _≤_, _<_};
 ghost use Rattle.std.specs.declared.result.Result.the-variants.{Ok, Err};
-ghost use Rattle.refusal.specs.declared.Part.the-variants as part;
+ghost use Rattle.refusal.specs.declared.Part.the-variants as parts;
 ghost use Rattle.refusal.specs.Table.{Passed, Refused, In-order, rows as rows-of};
 ghost use Rattle.ring.specs.Rings.{after, ring-of, ring-checks, Sides};
 use board::Board;
@@ -20,10 +20,14 @@ pub struct Ring {
 impl Ring {
     // The ring of so many sites.
     pub fn new(sites: usize) -> Result<Ring, Refusal>
-        ensures { λ r. ⌜ elim r [ Ok x ↦ Passed (ring-checks sites) × (x .sites ≡ sites) | Err e ↦ Refused (ring-checks sites) part.Board e ] ⌝ }
+        ensures { λ r. ⌜ elim r [ Ok x ↦ Passed (ring-checks sites) × (x .sites ≡ sites) | Err e ↦ Refused (ring-checks sites) parts.Board e ] ⌝ }
     {
         if sites < 3 || sites > 4096 {
-            return Err(Refusal { row: Row::Limit, place: 0, part: Part::Board });
+            return Err(Refusal {
+                row: Row::Limit,
+                place: 0,
+                part: Part::Board,
+            });
         }
         Ok(Ring { sites })
     }

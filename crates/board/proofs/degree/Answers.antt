@@ -25,9 +25,10 @@ loop-u-less g c =
 pub loop-u-again : need.loop-u-again
 loop-u-again g c =
     let ok = g .B·Board·met .sound (c .args .board .now) in
-    let h = c .in-Some .ensures tt in
-    ( omega (arith, linked-on ok (c .args .v) (c .in-Some .u) (h .linked))
-    , omega (arith, walk-on ok (c .args .v) (c .loop-u .j) (c .in-Some .u) h) )
+    let h = c .in-Some .ensures tt in (
+      omega (arith, linked-on ok (c .args .v) (c .in-Some .u) (h .linked)),
+      omega (arith, walk-on ok (c .args .v) (c .loop-u .j) (c .in-Some .u) h),
+    )
 
 pub returns : need.returns
 returns g c =

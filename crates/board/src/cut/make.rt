@@ -19,6 +19,9 @@ use refusal::Part;
 use refusal::Refusal;
 use refusal::Row;
 
+// The entries of a cut.
+const ROOM: usize = 32;
+
 // What is left of `all` links once so many are taken: never below 0.
 pub(super) fn rest(all: u32, taken: u32) -> u32
     ensures { λ r. ⌜ r ≡ all - taken ⌝ }
@@ -33,7 +36,15 @@ impl<B: Board> Cut<B> {
         ensures unset { λ r. ⌜ r .held ≡ 0 ⌝ }
         ensures shape { λ r. ⌜ cut-of (B·Board .shape (r .below)) (r .held) (r .entries) ≡ B·Board .shape below ⌝ }
     {
-        Cut { below, held: 0, entries: [Link { site: 0, other: End::Drain, count: 0 }; 32] }
+        Cut {
+            below,
+            held: 0,
+            entries: [Link {
+                site: 0,
+                other: End::Drain,
+                count: 0,
+            }; 32],
+        }
     }
 
     // Takes away `k` links between the site `a` and the end `b`.
@@ -42,35 +53,71 @@ impl<B: Board> Cut<B> {
         ensures made { λ r. ⌜ Cutting (B·Board .shape (now (self .entry) .below)) (now (self .entry) .held) (now (self .entry) .entries) (now (self .exit) .held) (now (self .exit) .entries) a b k r ⌝ }
     {
         if k < 1 {
-            return Err(Refusal { row: Row::Limit, place: 0, part: Part::Cut });
+            return Err(Refusal {
+                row: Row::Limit,
+                place: 0,
+                part: Part::Cut,
+            });
         }
         if let Some(site) = misfit(self.below.count(), a, b) {
-            return Err(Refusal { row: Row::Site, place: site as u64, part: Part::Cut });
+            return Err(Refusal {
+                row: Row::Site,
+                place: site as u64,
+                part: Part::Cut,
+            });
         }
         let i = find(&self.entries, self.held, a, b);
-        if i >= 32 {
-            return Err(Refusal { row: Row::CutFull, place: 0, part: Part::Cut });
+        if i >= ROOM {
+            return Err(Refusal {
+                row: Row::CutFull,
+                place: 0,
+                part: Part::Cut,
+            });
         }
         if k > self.standing(a, b) as u64 {
-            return Err(Refusal { row: Row::FewLinks, place: 0, part: Part::Cut });
+            return Err(Refusal {
+                row: Row::FewLinks,
+                place: 0,
+                part: Part::Cut,
+            });
         }
         let count = k as u32;
         if i < self.held {
             let old = self.entries[i];
-            self.entries[i] = Link { site: old.site, other: old.other, count: old.count + count };
+            self.entries[i] = Link {
+                site: old.site,
+                other: old.other,
+                count: old.count + count,
+            };
             return Ok(());
         }
-        self.entries[self.held] = Link { site: a, other: b, count };
+        self.entries[self.held] = Link {
+            site: a,
+            other: b,
+            count,
+        };
         self.held += 1;
         Ok(())
     }
 
     // Lifts the layer off and lays it on another board; gives back the board that it stood on.
     pub fn lay_on<C: Board>(self, board: C) -> (Cut<C>, B)
-        ensures { λ r. ⌜ (r .0 .below ≡ board) × (r .0 .held ≡ self .held) × (r .0 .entries ≡ self .entries) × (r .1 ≡ self .below) ⌝ }
+        ensures parts { λ r. ⌜ (r .0 .below ≡ board) × (r .0 .held ≡ self .held) × (r .0 .entries ≡ self .entries) × (r .1 ≡ self .below) ⌝ }
+        ensures shape { λ r. ⌜ cut-of (C·Board .shape (r .0 .below)) (r .0 .held) (r .0 .entries) ≡ cut-of (C·Board .shape board) (self .held) (self .entries) ⌝ }
     {
-        let Cut { below, held, entries } = self;
-        (Cut { below: board, held, entries }, below)
+        let Cut {
+            below,
+            held,
+            entries,
+        } = self;
+        (
+            Cut {
+                below: board,
+                held,
+                entries,
+            },
+            below,
+        )
     }
 
     // The rows by which `cut` refuses, in the order of its checks.
@@ -85,7 +132,10 @@ impl<B: Board> Cut<B> {
         ensures { λ r. ⌜ r ≡ stand (lessened (B·Board .shape (now (self .entry) .below)) (now (self .entry) .held) (now (self .entry) .entries)) a b ⌝ }
     {
         match b {
-            End::Site(y) => rest(self.below.links(a, y), sum_links(&self.entries, self.held, a, y)),
+            End::Site(y) => rest(
+                self.below.links(a, y),
+                sum_links(&self.entries, self.held, a, y),
+            ),
             End::Drain => rest(self.below.drain(a), sum_drain(&self.entries, self.held, a)),
         }
     }

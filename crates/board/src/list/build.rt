@@ -14,16 +14,35 @@ use refusal::Part;
 use refusal::Refusal;
 use refusal::Row;
 
+// All links of a board, over ordered pairs and to the drain.
+const LIMIT: u32 = 500_000;
+
+// The records of a list.
+const ROOM: usize = 4096;
+
 impl LinkList {
     // A list of these sites, with no links.
     pub fn new(sites: usize) -> Result<LinkList, Refusal>
         ensures { λ r. ⌜ Made sites r ⌝ }
     {
         if sites < 1 || sites > 4096 {
-            return Err(Refusal { row: Row::Limit, place: 0, part: Part::Board });
+            return Err(Refusal {
+                row: Row::Limit,
+                place: 0,
+                part: Part::Board,
+            });
         }
-        let none = Link { site: 0, other: End::Drain, count: 0 };
-        Ok(LinkList { sites, held: 0, total: 0, records: [none; 4096] })
+        let none = Link {
+            site: 0,
+            other: End::Drain,
+            count: 0,
+        };
+        Ok(LinkList {
+            sites,
+            held: 0,
+            total: 0,
+            records: [none; 4096],
+        })
     }
 
     // Adds a record of `k` links between the site `a` and the end `b`.
@@ -31,20 +50,40 @@ impl LinkList {
         ensures { λ r. ⌜ Added (now (self .entry)) (now (self .exit)) a b k r ⌝ }
     {
         if k < 1 || k > 500_000 {
-            return Err(Refusal { row: Row::Limit, place: 0, part: Part::Board });
+            return Err(Refusal {
+                row: Row::Limit,
+                place: 0,
+                part: Part::Board,
+            });
         }
         let count = k as u32;
         let weight = weight_of(b, count);
-        if self.total + weight > 500_000 {
-            return Err(Refusal { row: Row::Limit, place: 0, part: Part::Board });
+        if self.total + weight > LIMIT {
+            return Err(Refusal {
+                row: Row::Limit,
+                place: 0,
+                part: Part::Board,
+            });
         }
         if let Some(site) = misfit(self.sites, a, b) {
-            return Err(Refusal { row: Row::Site, place: site as u64, part: Part::Board });
+            return Err(Refusal {
+                row: Row::Site,
+                place: site as u64,
+                part: Part::Board,
+            });
         }
-        if self.held >= 4096 {
-            return Err(Refusal { row: Row::ListFull, place: 0, part: Part::Board });
+        if self.held >= ROOM {
+            return Err(Refusal {
+                row: Row::ListFull,
+                place: 0,
+                part: Part::Board,
+            });
         }
-        self.records[self.held] = Link { site: a, other: b, count };
+        self.records[self.held] = Link {
+            site: a,
+            other: b,
+            count,
+        };
         self.held += 1;
         self.total += weight;
         Ok(())

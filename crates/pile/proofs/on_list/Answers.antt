@@ -9,5 +9,5 @@ use Rattle.pile.proofs.on_list.Needs as need
 pub returns : need.returns
 returns c =
     renamed (shape-of (c .in-Continue-list .list)) row-of-three (c .args .w) (c .args .pair) (c .args .link)
-      (λ e. cut-of (merge-of (earth-of (shape-of (e .below .below .below)) (e .below .below .site)) (e .below .pair)) (e .held) (e .entries))
-      (c .pile-up .result) (c .in-Continue-list .ensures tt) (c .pile-up .ensures)
+    (λ e. cut-of (merge-of (earth-of (shape-of (e .below .below .below)) (e .below .below .site)) (e .below .pair)) (e .held) (e .entries))
+    (c .pile-up .result) (c .in-Continue-list .ensures tt) (c .pile-up .ensures)

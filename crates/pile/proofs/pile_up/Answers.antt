@@ -11,6 +11,6 @@ returns g c =
     let he = c .in-Continue-earth .ensures tt in
     let hm = c .in-Continue-merge .ensures tt in
     third (g .B·Board .shape (c .args .board)) (merge-of (earth-of (g .B·Board .shape (merge .below .below)) (merge .below .site)) (merge .pair))
-      (earth-of (g .B·Board .shape (earth .below)) (earth .site)) (c .args .w) (c .args .pair) (c .args .link)
-      (λ e. cut-of (merge-of (earth-of (g .B·Board .shape (e .below .below .below)) (e .below .below .site)) (e .below .pair)) (e .held) (e .entries))
-      (c .with-cut .result) (he .1) (hm .1) (he .0) (hm .0) (c .with-cut .ensures)
+    (earth-of (g .B·Board .shape (earth .below)) (earth .site)) (c .args .w) (c .args .pair) (c .args .link)
+    (λ e. cut-of (merge-of (earth-of (g .B·Board .shape (e .below .below .below)) (e .below .below .site)) (e .below .pair)) (e .held) (e .entries))
+    (c .with-cut .result) (he .1) (hm .1) (he .0) (hm .0) (c .with-cut .ensures)

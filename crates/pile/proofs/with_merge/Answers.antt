@@ -9,11 +9,11 @@ returns-in-Ok g c =
     let start = c .idle-merge .result in
     let same = ap (g .B·Board .shape) (c .idle-merge .ensures .below) in
     let h = fresh-merge (g .B·Board .shape (start .below)) (g .B·Board .shape (c .args .board)) (start .pair) (c .merge .last .self .pair) (c .args .a) (c .args .b) (Ok tt)
-          same (c .idle-merge .ensures .unset) (c .in-Ok .ensures tt .set) in
+    same (c .idle-merge .ensures .unset) (c .in-Ok .ensures tt .set) in
     (h .0, ap (λ b. merge-of (g .B·Board .shape b) (c .merge .last .self .pair)) (c .in-Ok .ensures tt .below ∙ c .idle-merge .ensures .below) ∙ h .2)
 
 pub returns-in-Err : need.returns-in-Err
 returns-in-Err g c =
     let start = c .idle-merge .result in
     fresh-merge (g .B·Board .shape (start .below)) (g .B·Board .shape (c .args .board)) (start .pair) (c .merge .last .self .pair) (c .args .a) (c .args .b) (Err (c .in-Err .refusal))
-      (ap (g .B·Board .shape) (c .idle-merge .ensures .below)) (c .idle-merge .ensures .unset) (c .in-Err .ensures tt .set) .0
+    (ap (g .B·Board .shape) (c .idle-merge .ensures .below)) (c .idle-merge .ensures .unset) (c .in-Err .ensures tt .set) .0

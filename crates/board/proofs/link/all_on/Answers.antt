@@ -13,10 +13,10 @@ pub returns-in-Some : need.returns-in-Some
 returns-in-Some c =
     let l = getD (c .args .entries .now) (c .loop-i .i) no-link in
     sym (all-fit-bad (c .args .sites) (c .loop-i .i) (c .args .n) (c .args .entries .now) (c .loop-i-test .taken)
-      (misfit-fits (c .args .sites) (l .site) (l .other) _ (c .in-Some .ensures tt)))
+    (misfit-fits (c .args .sites) (l .site) (l .other) _ (c .in-Some .ensures tt)))
 
 pub loop-i-again : need.loop-i-again
 loop-i-again c =
     let l = getD (c .args .entries .now) (c .loop-i .i) no-link in
     all-fit-more (c .args .sites) (c .loop-i .i) (c .args .entries .now)
-      ∙ and-from _ _ (c .loop-i .inv) (fit-fits (c .args .sites) (l .site) (l .other) (c .in-rest .ensures tt))
+    ∙ and-from _ _ (c .loop-i .inv) (fit-fits (c .args .sites) (l .site) (l .other) (c .in-rest .ensures tt))

@@ -19,15 +19,18 @@ moved-fit a b n m e h = let P : ℕ → Type 0 = λ n. Fit n a b in subst P e h
 pub add-self : need.add-self
 add-self g c =
     let e = c .args .self .now in
-    omega (arith, raise-fits (g .B·Board .shape (e .below)) (g .B·Board·met .sound (e .below)) (e .held) (c .find-i .result) (e .entries) (c .if-i-self .taken) (c .args .a) (c .args .b) (c .args .k)
-      (omega arith) (c .find-i .ensures .here (c .if-i-self .taken)) (omega arith))
+    omega (
+      arith,
+      raise-fits (g .B·Board .shape (e .below)) (g .B·Board·met .sound (e .below)) (e .held) (c .find-i .result) (e .entries) (c .if-i-self .taken) (c .args .a) (c .args .b) (c .args .k)
+          (omega arith) (c .find-i .ensures .here (c .if-i-self .taken)) (omega arith),
+    )
 
 pub ghost-self-then-i-self : need.ghost-self-then-i-self
 ghost-self-then-i-self g c =
     let e = c .args .self .now in
     let i = c .find-i .result in
     let small = raise-fits (g .B·Board .shape (e .below)) (g .B·Board·met .sound (e .below)) (e .held) (c .find-i .result) (e .entries) (c .if-i-self .taken) (c .args .a) (c .args .b) (c .args .k)
-          (omega arith) (c .find-i .ensures .here (c .if-i-self .taken)) (omega arith) in
+    (omega arith) (c .find-i .ensures .here (c .if-i-self .taken)) (omega arith) in
     (e .room, (low-set (e .entries) (e .held) i (raised (getD (e .entries) i no-link) (c .args .k)) (omega arith) small (λ k h p. e .low k h), tt))
 
 pub returns-then-i-self : need.returns-then-i-self
@@ -40,10 +43,12 @@ returns-then-i-self g c =
     let fit = moved-fit (c .args .a) (c .args .b) (x .sites) _ (c .count .ensures) (c .in-rest .ensures tt) in
     record {
       below = refl;
-      made = ( ((λ p h. omega arith), (fit-quiet (x .sites) (c .args .a) (c .args .b) fit, ((λ p h. h .2 i (c .if-i-self .taken) here), ((λ p h. omega arith), tt))))
-             , inr (i, c .if-i-self .taken, here, refl, refl)
-             , raised-cut x (e .held) (e .entries) (c .args .a) (c .args .b) (c .args .k) fit i (c .if-i-self .taken) long here
-             , raised-idle x (e .held) (e .entries) (c .args .a) (c .args .b) (c .args .k) fit i (c .if-i-self .taken) long here );
+      made = (
+        ((λ p h. omega arith), (fit-quiet (x .sites) (c .args .a) (c .args .b) fit, ((λ p h. h .2 i (c .if-i-self .taken) here), ((λ p h. omega arith), tt)))),
+        inr (i, c .if-i-self .taken, here, refl, refl),
+        raised-cut x (e .held) (e .entries) (c .args .a) (c .args .b) (c .args .k) fit i (c .if-i-self .taken) long here,
+        raised-idle x (e .held) (e .entries) (c .args .a) (c .args .b) (c .args .k) fit i (c .if-i-self .taken) long here,
+      );
     }
 
 pub ghost-self-2 : need.ghost-self-2
@@ -61,8 +66,10 @@ returns g c =
     let fit = moved-fit (c .args .a) (c .args .b) (x .sites) _ (c .count .ensures) (c .in-rest .ensures tt) in
     record {
       below = refl;
-      made = ( ((λ p h. omega arith), (fit-quiet (x .sites) (c .args .a) (c .args .b) fit, ((λ p h. omega arith), ((λ p h. omega arith), tt))))
-             , inl ((λ k h p. both-ways _ (c .find-i .ensures .before k (omega arith)) p), refl, refl)
-             , new-cut x (e .held) (e .entries) (c .args .a) (c .args .b) (c .args .k) fit room
-             , new-idle x (e .held) (e .entries) (c .args .a) (c .args .b) (c .args .k) fit room );
+      made = (
+        ((λ p h. omega arith), (fit-quiet (x .sites) (c .args .a) (c .args .b) fit, ((λ p h. omega arith), ((λ p h. omega arith), tt)))),
+        inl ((λ k h p. both-ways _ (c .find-i .ensures .before k (omega arith)) p), refl, refl),
+        new-cut x (e .held) (e .entries) (c .args .a) (c .args .b) (c .args .k) fit room,
+        new-idle x (e .held) (e .entries) (c .args .a) (c .args .b) (c .args .k) fit room,
+      );
     }

@@ -9,8 +9,9 @@ returns-then-u-n g c =
     let b = g .B·Board .shape (c .args .self .now .below) in
     let ok = g .B·Board·met .sound (c .args .self .now .below) in
     elim (c .then-u-n .either) [
-        inl h ↦ sym (off-zero b (c .args .self .now .site) (c .in-Some .w) (c .in-Some .ensures tt .is) ok (c .args .u) (c .args .v) (inl (omega arith)))
-      | inr h ↦ sym (off-zero b (c .args .self .now .site) (c .in-Some .w) (c .in-Some .ensures tt .is) ok (c .args .u) (c .args .v) (inr (omega arith))) ]
+      | inl h ↦ sym (off-zero b (c .args .self .now .site) (c .in-Some .w) (c .in-Some .ensures tt .is) ok (c .args .u) (c .args .v) (inl (omega arith)))
+      | inr h ↦ sym (off-zero b (c .args .self .now .site) (c .in-Some .w) (c .in-Some .ensures tt .is) ok (c .args .u) (c .args .v) (inr (omega arith)))
+    ]
 
 pub returns : need.returns
 returns g c =

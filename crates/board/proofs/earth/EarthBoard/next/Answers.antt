@@ -19,8 +19,9 @@ pub returns-then-v-n : need.returns-then-v-n
 returns-then-v-n g c =
     let ok = g .B·Board·met .sound (c .args .self .now .below) in
     λ k from. elim (c .then-v-n .either) [
-        inl h ↦ off-zero (g .B·Board .shape (c .args .self .now .below)) (c .args .self .now .site) (c .in-Some .w) (c .in-Some .ensures tt .is) ok (c .args .v) k (inl (omega arith))
-      | inr h ↦ off-zero (g .B·Board .shape (c .args .self .now .below)) (c .args .self .now .site) (c .in-Some .w) (c .in-Some .ensures tt .is) ok (c .args .v) k (inr (omega arith)) ]
+      | inl h ↦ off-zero (g .B·Board .shape (c .args .self .now .below)) (c .args .self .now .site) (c .in-Some .w) (c .in-Some .ensures tt .is) ok (c .args .v) k (inl (omega arith))
+      | inr h ↦ off-zero (g .B·Board .shape (c .args .self .now .below)) (c .args .self .now .site) (c .in-Some .w) (c .in-Some .ensures tt .is) ok (c .args .v) k (inr (omega arith))
+    ]
 
 pub returns-in-rest-next-but : need.returns-in-rest-next-but
 returns-in-rest-next-but g c =
@@ -33,7 +34,7 @@ returns-then-u-w g c =
     let b = g .B·Board .shape (c .args .self .now .below) in
     let same = seen b (c .args .self .now .site) (c .in-Some .w) (c .in-Some .ensures tt .is) (c .args .v) _ (c .lifted .ensures) in
     least-down (c .in-Some .w) (b .m _) _ same (c .args .j) _ _ _ (c .lifted-2 .ensures) (c .in-Some-next-but .ensures tt)
-      (sym (up-below (c .in-Some .w) (c .in-Some-next-but .u) (c .if-u-w .taken)))
+    (sym (up-below (c .in-Some .w) (c .in-Some-next-but .u) (c .if-u-w .taken)))
 
 pub returns-else-u-w : need.returns-else-u-w
 returns-else-u-w g c =

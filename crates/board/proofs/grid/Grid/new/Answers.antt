@@ -5,4 +5,4 @@ use Rattle.board.proofs.Grids.{placed}
 use Rattle.board.proofs.grid.Grid.new.Needs as need
 
 pub returns : need.returns
-returns c = (search needs, refl, refl, placed (c .args .rows) (c .args .columns) (omega arith))
+returns c = (search needs, refl, refl, refl, placed (c .args .rows) (c .args .columns) (omega arith))

@@ -12,15 +12,19 @@ pub returns-then-u-n : need.returns-then-u-n
 returns-then-u-n c =
     let g = c .args .self .now in
     elim (c .then-u-n .either) [
-        inl h ↦ sym (m-off-left (g .rows) (g .columns) (c .args .u) (c .args .v) (omega arith))
-      | inr h ↦ sym (m-off (g .rows) (g .columns) (c .args .u) (c .args .v) (omega arith)) ]
+      | inl h ↦ sym (m-off-left (g .rows) (g .columns) (c .args .u) (c .args .v) (omega arith))
+      | inr h ↦ sym (m-off (g .rows) (g .columns) (c .args .u) (c .args .v) (omega arith))
+    ]
 
 pub are-neighbours-requires : need.are-neighbours-requires
 are-neighbours-requires c κs =
     let g = c .args .self .now in
-    let some = g .ok .2 in
-    ( omega (arith, row-lt (g .columns) some (g .rows) (c .args .u) (omega arith)), omega (arith, column-lt (g .columns) some (c .args .u))
-    , omega (arith, row-lt (g .columns) some (g .rows) (c .args .v) (omega arith)), omega (arith, column-lt (g .columns) some (c .args .v)) )
+    let some = g .ok .2 in (
+      omega (arith, row-lt (g .columns) some (g .rows) (c .args .u) (omega arith)),
+      omega (arith, column-lt (g .columns) some (c .args .u)),
+      omega (arith, row-lt (g .columns) some (g .rows) (c .args .v) (omega arith)),
+      omega (arith, column-lt (g .columns) some (c .args .v)),
+    )
 
 pub returns : need.returns
 returns c =

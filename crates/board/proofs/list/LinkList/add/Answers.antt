@@ -20,35 +20,64 @@ low x b k w one e h p o = elim (o .1) [ inl z ↦ omega arith | inr z ↦ omega 
 
 pub returns-then-k-lt1 : need.returns-then-k-lt1
 returns-then-k-lt1 c = elim (c .then-k-lt1 .either) [
-    inl h ↦ (record { by = inl (refl, (refl, inl h)); from = refl }, refl)
-  | inr h ↦ (record { by = inl (refl, (refl, inr (omega (arith, weight-le (c .args .b) (c .args .k))))); from = refl }, refl) ]
+  | inl h ↦ (record { by = inl (refl, (refl, inl h)); from = refl }, refl)
+  | inr h ↦ (record { by = inl (refl, (refl, inr (omega (arith, weight-le (c .args .b) (c .args .k))))); from = refl }, refl)
+]
 
-pub returns-then-self-weight-gt500000 : need.returns-then-self-weight-gt500000
-returns-then-self-weight-gt500000 c =
+pub returns-then-self-weight-gt-LIMIT : need.returns-then-self-weight-gt-LIMIT
+returns-then-self-weight-gt-LIMIT c =
     (record { by = inl (refl, (refl, inr (omega (arith, list-total (c .args .self .now))))); from = refl }, refl)
 
 pub returns-in-Some : need.returns-in-Some
-returns-in-Some c =
-    ( record { by = inr (low (c .args .self .now) (c .args .b) (c .args .k) (c .weight-of-weight .result) (omega arith) (c .weight-of-weight .ensures) (omega arith)
-                        , inl (refl, c .in-Some .ensures tt)); from = refl }, refl )
+returns-in-Some c = (
+  record {
+    by = inr (
+      low (c .args .self .now) (c .args .b) (c .args .k) (c .weight-of-weight .result) (omega arith) (c .weight-of-weight .ensures) (omega arith),
+      inl (refl, c .in-Some .ensures tt),
+    );
+    from = refl;
+  },
+  refl,
+)
 
-pub returns-then-self-ge4096 : need.returns-then-self-ge4096
-returns-then-self-ge4096 c =
-    ( record { by = inr (low (c .args .self .now) (c .args .b) (c .args .k) (c .weight-of-weight .result) (omega arith) (c .weight-of-weight .ensures) (omega arith)
-                        , inr (fit-quiet (c .args .self .now .sites) (c .args .a) (c .args .b) (c .in-rest .ensures tt), inl (refl, (refl, omega arith)))); from = refl }, refl )
+pub returns-then-self-ge-ROOM : need.returns-then-self-ge-ROOM
+returns-then-self-ge-ROOM c = (
+  record {
+    by = inr (
+      low (c .args .self .now) (c .args .b) (c .args .k) (c .weight-of-weight .result) (omega arith) (c .weight-of-weight .ensures) (omega arith),
+      inr (fit-quiet (c .args .self .now .sites) (c .args .a) (c .args .b) (c .in-rest .ensures tt), inl (refl, (refl, omega arith))),
+    );
+    from = refl;
+  },
+  refl,
+)
 
 pub ghost-self : need.ghost-self
 ghost-self c =
     let b = c .args .self .now in
     let l : Link = record { site = c .args .a; other = c .args .b; count = c .args .k } in
-    let in-b : b .held < length (b .records) = omega arith in
-    ( b .some, (b .few, (omega arith, ( grow-fit (b .records) (b .held) (b .sites) l in-b (b .fit) (c .in-rest .ensures tt) (omega arith)
-    , (omega (arith, grow-weight (b .records) (b .held) l in-b), (omega arith, tt))))))
+    let in-b : b .held < length (b .records) = omega arith in (
+      b .some,
+      (
+        b .few,
+        (
+          omega arith,
+          (
+            grow-fit (b .records) (b .held) (b .sites) l in-b (b .fit) (c .in-rest .ensures tt) (omega arith),
+            (omega (arith, grow-weight (b .records) (b .held) l in-b), (omega arith, tt)),
+          ),
+        ),
+      ),
+    )
 
 pub returns : need.returns
 returns c =
     let b = c .args .self .now in
-    let l : Link = record { site = c .args .a; other = c .args .b; count = c .args .k } in
-    ( (low (c .args .self .now) (c .args .b) (c .args .k) (c .weight-of-weight .result) (omega arith) (c .weight-of-weight .ensures) (omega arith)
-      , (fit-quiet (b .sites) (c .args .a) (c .args .b) (c .in-rest .ensures tt), ((λ p f. omega arith), tt)))
-    , listed-grown (b .sites) (b .held) (b .records) l (omega arith), refl )
+    let l : Link = record { site = c .args .a; other = c .args .b; count = c .args .k } in (
+      (
+        low (c .args .self .now) (c .args .b) (c .args .k) (c .weight-of-weight .result) (omega arith) (c .weight-of-weight .ensures) (omega arith),
+        (fit-quiet (b .sites) (c .args .a) (c .args .b) (c .in-rest .ensures tt), ((λ p f. omega arith), tt)),
+      ),
+      listed-grown (b .sites) (b .held) (b .records) l (omega arith),
+      refl,
+    )

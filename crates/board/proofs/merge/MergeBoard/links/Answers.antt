@@ -9,8 +9,9 @@ pub returns-then-u-n : need.returns-then-u-n
 returns-then-u-n g c =
     let ok = g .B·Board·met .sound (c .args .self .now .below) in
     elim (c .then-u-n .either) [
-        inl h ↦ sym (off-zero (g .B·Board .shape (c .args .self .now .below)) (c .args .self .now .pair) (c .in-Some .pair) (c .in-Some .ensures tt .is) ok (c .args .u) (c .args .v) (inl (omega arith)))
-      | inr h ↦ sym (off-zero (g .B·Board .shape (c .args .self .now .below)) (c .args .self .now .pair) (c .in-Some .pair) (c .in-Some .ensures tt .is) ok (c .args .u) (c .args .v) (inr (omega arith))) ]
+      | inl h ↦ sym (off-zero (g .B·Board .shape (c .args .self .now .below)) (c .args .self .now .pair) (c .in-Some .pair) (c .in-Some .ensures tt .is) ok (c .args .u) (c .args .v) (inl (omega arith)))
+      | inr h ↦ sym (off-zero (g .B·Board .shape (c .args .self .now .below)) (c .args .self .now .pair) (c .in-Some .pair) (c .in-Some .ensures tt .is) ok (c .args .u) (c .args .v) (inr (omega arith)))
+    ]
 
 pub joined-links-requires : need.joined-links-requires
 joined-links-requires g c κs =

@@ -11,8 +11,9 @@ pub returns-then-v-n : need.returns-then-v-n
 returns-then-v-n g c =
     let ok = g .B·Board·met .sound (c .args .self .now .below) in
     λ k from. elim (c .then-v-n .either) [
-        inl h ↦ off-zero (g .B·Board .shape (c .args .self .now .below)) (c .args .self .now .pair) (c .in-Some .pair) (c .in-Some .ensures tt .is) ok (c .args .v) k (inl (omega arith))
-      | inr h ↦ off-zero (g .B·Board .shape (c .args .self .now .below)) (c .args .self .now .pair) (c .in-Some .pair) (c .in-Some .ensures tt .is) ok (c .args .v) k (inr (omega arith)) ]
+      | inl h ↦ off-zero (g .B·Board .shape (c .args .self .now .below)) (c .args .self .now .pair) (c .in-Some .pair) (c .in-Some .ensures tt .is) ok (c .args .v) k (inl (omega arith))
+      | inr h ↦ off-zero (g .B·Board .shape (c .args .self .now .below)) (c .args .self .now .pair) (c .in-Some .pair) (c .in-Some .ensures tt .is) ok (c .args .v) k (inr (omega arith))
+    ]
 
 pub returns-in-rest-joined-next : need.returns-in-rest-joined-next
 returns-in-rest-joined-next g c =
@@ -27,7 +28,7 @@ returns-then-u-pair g c =
     let p = c .in-Some .pair in
     let same = seen x (c .args .self .now .pair) p (c .in-Some .ensures tt .is) (c .args .v) _ (c .lifted .ensures) in
     least-down (p .a) (joined-m (p .a) (p .b) x _) _ same (c .args .j) _ _ _ (c .lifted-2 .ensures) (c .in-Some-joined-next .ensures tt)
-      (sym (up-below (p .a) (c .in-Some-joined-next .u) (c .if-u-pair .taken)))
+    (sym (up-below (p .a) (c .in-Some-joined-next .u) (c .if-u-pair .taken)))
 
 pub returns-else-u-pair : need.returns-else-u-pair
 returns-else-u-pair g c =
