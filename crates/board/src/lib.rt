@@ -4,13 +4,9 @@ ghost use mathlib.Core.Bool.{true};
 ghost use Prim.Native.Nat.{ℕ};
 ghost use Rattle.board.specs.Shape.{Shape, Sound, NextIs, deg, Follows, Degrees};
 
-pub mod cut;
-pub mod earth;
 pub mod grid;
-mod layer;
 pub mod link;
 pub mod list;
-pub mod merge;
 
 pub use link::End;
 

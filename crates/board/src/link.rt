@@ -1,8 +1,7 @@
 // Links of two sites, or of a site and the drain: the records of a link list and the entries of a cut.
 ghost use mathlib.Core.Path.{_≡_};
 ghost use Prim.Native.Nat.{ℕ, _≤_};
-ghost use lib.ListN.{length};
-ghost use Rattle.board.specs.Links.{between, to-drain, far, alike, weight, Found, Fitting, all-fit, Low, m-of, s-of};
+ghost use Rattle.board.specs.Links.{between, to-drain, far, alike, weight, Fitting};
 
 // Where links of a site lead: to another site, or to the drain.
 #[derive(Clone, Copy)]
@@ -20,7 +19,7 @@ pub struct Link {
 }
 
 // The links of `l` between `u` and `v`.
-pub(crate) fn links_of(l: Link, u: usize, v: usize) -> u32
+pub fn links_of(l: Link, u: usize, v: usize) -> u32
     ensures { λ r. ⌜ r ≡ between l u v ⌝ }
 {
     let End::Site(y) = l.other else {
@@ -33,7 +32,7 @@ pub(crate) fn links_of(l: Link, u: usize, v: usize) -> u32
 }
 
 // The links of `l` between `v` and the drain.
-pub(crate) fn drain_of(l: Link, v: usize) -> u32
+pub fn drain_of(l: Link, v: usize) -> u32
     ensures { λ r. ⌜ r ≡ to-drain l v ⌝ }
 {
     match l.other {
@@ -48,7 +47,7 @@ pub(crate) fn drain_of(l: Link, v: usize) -> u32
 }
 
 // The site at the other end of `l` from `v`.
-pub(crate) fn far_end(l: Link, v: usize) -> Option<usize>
+pub fn far_end(l: Link, v: usize) -> Option<usize>
     ensures { λ r. ⌜ r ≡ far (l .site) (l .other) v ⌝ }
 {
     let End::Site(y) = l.other else {
@@ -64,7 +63,7 @@ pub(crate) fn far_end(l: Link, v: usize) -> Option<usize>
 }
 
 // Whether `l` is of the ends `a` and `b`, either first.
-pub(crate) fn is_alike(l: Link, a: usize, b: End) -> bool
+pub fn is_alike(l: Link, a: usize, b: End) -> bool
     ensures { λ r. ⌜ r ≡ alike (l .site) (l .other) a b ⌝ }
 {
     match (l.other, b) {
@@ -76,7 +75,7 @@ pub(crate) fn is_alike(l: Link, a: usize, b: End) -> bool
 }
 
 // The first of the ends `a` and `b` that is not on a board of `n` sites, or `a` named again.
-pub(crate) fn misfit(n: usize, a: usize, b: End) -> Option<usize>
+pub fn misfit(n: usize, a: usize, b: End) -> Option<usize>
     ensures { λ r. ⌜ Fitting n a b r ⌝ }
 {
     if a >= n {
@@ -100,58 +99,4 @@ pub(crate) fn weight_of(b: End, k: u32) -> u32
         End::Site(_) => k + k,
         End::Drain => k,
     }
-}
-
-// Whether the first `n` entries are all on a board of `sites` sites.
-pub(crate) fn all_on(entries: &[Link], n: usize, sites: usize) -> bool
-    requires { ⌜ n ≤ length (now entries) ⌝ }
-    ensures { λ r. ⌜ r ≡ all-fit sites (now (entries .entry)) n ⌝ }
-{
-    for i in 0..n {
-        let l = entries[i];
-        if let Some(_) = misfit(sites, l.site, l.other) {
-            return false;
-        }
-    }
-    true
-}
-
-// The place of the pair in the first `n` entries, or `n`.
-pub(crate) fn find(entries: &[Link], n: usize, a: usize, b: End) -> usize
-    requires { ⌜ n ≤ length (now entries) ⌝ }
-    ensures { λ r. ⌜ Found (now (entries .entry)) n a b r ⌝ }
-{
-    for i in 0..n {
-        let l = entries[i];
-        if is_alike(l, a, b) {
-            return i;
-        }
-    }
-    n
-}
-
-// The links of the first `n` entries between `u` and `v`.
-pub(crate) fn sum_links(entries: &[Link], n: usize, u: usize, v: usize) -> u32
-    requires { ⌜ (n ≤ length (now entries)) × (n ≤ 32) × Low (now entries) n ⌝ }
-    ensures { λ r. ⌜ r ≡ m-of (now (entries .entry)) n u v ⌝ }
-{
-    let mut sum = 0;
-    for i in 0..n {
-        let l = entries[i];
-        sum += links_of(l, u, v);
-    }
-    sum
-}
-
-// The links of the first `n` entries between `v` and the drain.
-pub(crate) fn sum_drain(entries: &[Link], n: usize, v: usize) -> u32
-    requires { ⌜ (n ≤ length (now entries)) × (n ≤ 32) × Low (now entries) n ⌝ }
-    ensures { λ r. ⌜ r ≡ s-of (now (entries .entry)) n v ⌝ }
-{
-    let mut sum = 0;
-    for i in 0..n {
-        let l = entries[i];
-        sum += drain_of(l, v);
-    }
-    sum
 }

@@ -16,12 +16,12 @@ use Rattle.board.specs.Shape.{Shape}
 use Rattle.board.specs.declared.link.Link.{Link}
 use Rattle.board.specs.declared.link.End.{End}
 use Rattle.board.specs.declared.link.End.the-variants.{Site, Drain}
-use Rattle.board.specs.declared.merge.Pair.{Pair}
+use Rattle.layer.specs.declared.merge.Pair.{Pair}
 use Rattle.board.specs.Links.{m-of, s-of, all-fit}
 use Rattle.board.specs.Grids.{grid-of, grid-checks}
-use Rattle.board.specs.Earths.{earth-of, earthed, earth-checks, Earthing}
-use Rattle.board.specs.Merges.{merge-of, merged, merge-checks, Merging}
-use Rattle.board.specs.Cuts.{cut-of, cut-by, lessened, standing, cut-checks, Cutting}
+use Rattle.layer.specs.Earths.{earth-of, earthed, earth-checks, Earthing}
+use Rattle.layer.specs.Merges.{merge-of, merged, merge-checks, Merging}
+use Rattle.layer.specs.Cuts.{cut-of, cut-by, lessened, standing, cut-checks, Cutting}
 use Rattle.board.proofs.Tables.{m-of-none, s-of-none, all-fit-none}
 use Rattle.pile.specs.Piles.{cut-once, first-cut-checks, Piled, On-grid}
 

@@ -10,8 +10,8 @@ use Rattle.refusal.specs.declared.Refusal.{Refusal}
 use Rattle.refusal.specs.Table.{Refused}
 use Rattle.board.specs.Shape.{Shape, deg, sum-below, all-links}
 use Rattle.board.specs.Grids.{grid-of}
-use Rattle.board.specs.Earths.{earthed, earth-checks}
-use Rattle.board.specs.Merges.{merged, merge-checks}
+use Rattle.layer.specs.Earths.{earthed, earth-checks}
+use Rattle.layer.specs.Merges.{merged, merge-checks}
 use Rattle.board.specs.declared.link.End.{End}
 use Rattle.board.specs.declared.link.End.the-variants.{Site, Drain}
 use Rattle.board.specs.declared.list.LinkList.{LinkList}

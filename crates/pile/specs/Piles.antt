@@ -13,12 +13,12 @@ use mathlib.Core.Logic.{_⊎_}
 use Rattle.board.specs.Shape.{Shape}
 use Rattle.board.specs.declared.link.End.{End}
 use Rattle.board.specs.declared.link.Link.{Link}
-use Rattle.board.specs.declared.merge.Pair.{Pair}
+use Rattle.layer.specs.declared.merge.Pair.{Pair}
 use Rattle.board.specs.Links.{Misfit}
-use Rattle.board.specs.Earths.{earthed, earth-checks}
-use Rattle.board.specs.Merges.{merged, merge-checks}
+use Rattle.layer.specs.Earths.{earthed, earth-checks}
+use Rattle.layer.specs.Merges.{merged, merge-checks}
 use Rattle.board.specs.declared.link.End.the-variants.{Site, Drain}
-use Rattle.board.specs.Cuts.{cut-by, standing}
+use Rattle.layer.specs.Cuts.{cut-by, standing}
 use Rattle.board.specs.Grids.{grid-of, grid-checks}
 use Rattle.board.specs.Lists.{bare, linked}
 

@@ -4,8 +4,8 @@ use mathlib.Core.List.{List, [], _∷_}
 use Prim.Native.Nat.{ℕ}
 use Rattle.board.specs.Shape.{Shape, deg}
 use Rattle.board.specs.Grids.{grid-of}
-use Rattle.board.specs.Earths.{earthed}
-use Rattle.board.specs.Merges.{merged}
+use Rattle.layer.specs.Earths.{earthed}
+use Rattle.layer.specs.Merges.{merged}
 
 -- of the sites 0 and 1 of a board: the links between them, the drain links of each, the degree of each
 abbrev pub figures-of : Shape → List ℕ

@@ -5,9 +5,9 @@ ghost use Rattle.std.specs.declared.option.Option.the-variants.{None as Nothing
 ghost use Rattle.std.specs.declared.result.Result.the-variants.{Ok, Err};
 ghost use Rattle.refusal.specs.declared.Part.the-variants as parts;
 ghost use Rattle.refusal.specs.Table.{Passed, Refused};
-ghost use Rattle.board.specs.Earths.{earth-of, earthed, earth-checks};
-ghost use Rattle.board.specs.Merges.{merge-of, merged, merge-checks};
-ghost use Rattle.board.specs.Cuts.{cut-of};
+ghost use Rattle.layer.specs.Earths.{earth-of, earthed, earth-checks};
+ghost use Rattle.layer.specs.Merges.{merge-of, merged, merge-checks};
+ghost use Rattle.layer.specs.Cuts.{cut-of};
 ghost use Rattle.board.specs.Grids.{grid-of};
 ghost use Rattle.board.specs.Adding.{shape-of};
 ghost use Rattle.pile.specs.Piles.{cut-once, first-cut-checks, Piled, On-grid, row-of-three};
@@ -16,17 +16,17 @@ pub mod worked;
 
 use board::Board;
 use board::End;
-use board::cut::Cut;
-use board::earth::Earth;
-use board::earth::EarthBoard;
+use layer::cut::Cut;
+use layer::earth::Earth;
+use layer::earth::EarthBoard;
 use board::grid::Grid;
 use board::grid::GridBoard;
 use board::link::Link;
 use board::list::LinkList;
 use board::list::ListBoard;
-use board::merge::Merge;
-use board::merge::MergeBoard;
-use board::merge::Pair;
+use layer::merge::Merge;
+use layer::merge::MergeBoard;
+use layer::merge::Pair;
 use refusal::Refusal;
 
 // The board with `w` earthed.

@@ -8,10 +8,10 @@ use crate::with_earth;
 use crate::with_merge;
 use board::Board;
 use board::degree;
-use board::earth::EarthBoard;
+use layer::earth::EarthBoard;
 use board::grid::Grid;
 use board::grid::GridBoard;
-use board::merge::MergeBoard;
+use layer::merge::MergeBoard;
 use refusal::Refusal;
 
 // Of the sites 0 and 1 of a board: the links between them, the drain links of each, the degree of each.

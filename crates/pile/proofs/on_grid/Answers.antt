@@ -1,8 +1,8 @@
 use mathlib.Core.Path.{_∙_, ap}
 use Rattle.board.specs.Grids.{grid-of}
-use Rattle.board.specs.Earths.{earth-of}
-use Rattle.board.specs.Merges.{merge-of}
-use Rattle.board.specs.Cuts.{cut-of}
+use Rattle.layer.specs.Earths.{earth-of}
+use Rattle.layer.specs.Merges.{merge-of}
+use Rattle.layer.specs.Cuts.{cut-of}
 use Rattle.pile.proofs.Fresh.{renamed, gridded}
 use Rattle.pile.proofs.on_grid.Needs as need
 

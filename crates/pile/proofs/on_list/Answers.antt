@@ -1,7 +1,7 @@
 use Rattle.board.specs.Adding.{shape-of}
-use Rattle.board.specs.Earths.{earth-of}
-use Rattle.board.specs.Merges.{merge-of}
-use Rattle.board.specs.Cuts.{cut-of}
+use Rattle.layer.specs.Earths.{earth-of}
+use Rattle.layer.specs.Merges.{merge-of}
+use Rattle.layer.specs.Cuts.{cut-of}
 use Rattle.pile.specs.Piles.{row-of-three}
 use Rattle.pile.proofs.Fresh.{renamed}
 use Rattle.pile.proofs.on_list.Needs as need

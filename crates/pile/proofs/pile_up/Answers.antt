@@ -1,6 +1,6 @@
-use Rattle.board.specs.Earths.{earth-of}
-use Rattle.board.specs.Merges.{merge-of}
-use Rattle.board.specs.Cuts.{cut-of}
+use Rattle.layer.specs.Earths.{earth-of}
+use Rattle.layer.specs.Merges.{merge-of}
+use Rattle.layer.specs.Cuts.{cut-of}
 use Rattle.pile.proofs.Fresh.{third}
 use Rattle.pile.proofs.pile_up.Needs as need
 

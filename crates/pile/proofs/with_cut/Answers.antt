@@ -1,6 +1,6 @@
 use mathlib.Core.Path.{_≡_, _∙_, ap}
 use Rattle.std.specs.declared.result.Result.the-variants.{Ok, Err}
-use Rattle.board.specs.Cuts.{cut-of}
+use Rattle.layer.specs.Cuts.{cut-of}
 use Rattle.pile.proofs.Fresh.{fresh-cut, first-refused, first-passed, first-cut}
 use Rattle.pile.proofs.with_cut.Needs as need
 

@@ -1,6 +1,6 @@
 use mathlib.Core.Path.{_∙_, ap}
 use Rattle.std.specs.declared.result.Result.the-variants.{Ok, Err}
-use Rattle.board.specs.Earths.{earth-of}
+use Rattle.layer.specs.Earths.{earth-of}
 use Rattle.pile.proofs.Fresh.{fresh-earth}
 use Rattle.pile.proofs.with_earth.Needs as need
 

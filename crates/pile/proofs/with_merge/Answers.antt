@@ -1,6 +1,6 @@
 use mathlib.Core.Path.{_∙_, ap}
 use Rattle.std.specs.declared.result.Result.the-variants.{Ok, Err}
-use Rattle.board.specs.Merges.{merge-of}
+use Rattle.layer.specs.Merges.{merge-of}
 use Rattle.pile.proofs.Fresh.{fresh-merge}
 use Rattle.pile.proofs.with_merge.Needs as need
 

@@ -1,6 +1,6 @@
 use mathlib.Core.Path.{_≡_, _∙_, ap}
 use Rattle.std.specs.declared.result.Result.the-variants.{Ok}
-use Rattle.board.specs.Merges.{merged}
+use Rattle.layer.specs.Merges.{merged}
 use Rattle.board.specs.Grids.{grid-of}
 use Rattle.pile.specs.Worked.{figures-of}
 use Rattle.pile.proofs.Results.{ends-merged, merge-goes, is-grid}

@@ -1,6 +1,0 @@
-use mathlib.Core.Path.{refl}
-use Rattle.board.proofs.Cutting.{cut-none}
-use Rattle.board.proofs.cut.Cut.idle.Needs as need
-
-pub returns : need.returns
-returns g c = record { below = refl; unset = refl; shape = cut-none (g .B·Board .shape (c .args .below)) _ }

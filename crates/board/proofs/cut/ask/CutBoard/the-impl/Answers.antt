@@ -1,5 +1,0 @@
-use Rattle.board.proofs.Cutting.{cut-sound}
-use Rattle.board.proofs.cut.ask.CutBoard.the-impl.Needs as need
-
-pub sound-law : need.sound-law
-sound-law g e = cut-sound (g .B·Board .shape (e .below)) (g .B·Board·met .sound (e .below)) (e .held) (e .entries)

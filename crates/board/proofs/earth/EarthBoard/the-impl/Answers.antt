@@ -1,5 +1,0 @@
-use Rattle.board.proofs.Earthed.{earth-sound}
-use Rattle.board.proofs.earth.EarthBoard.the-impl.Needs as need
-
-pub sound-law : need.sound-law
-sound-law g e = earth-sound (g .B·Board .shape (e .below)) (g .B·Board·met .sound (e .below)) (e .site)
