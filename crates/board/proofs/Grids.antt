@@ -17,6 +17,10 @@ module _ (rows columns : ℕ) where
   abbrev test : ℕ → ℕ → Bool
   test u v = neighbours (row-of columns u) (column-of columns u) (row-of columns v) (column-of columns v)
 
+  pub sites-are : grid-of rows columns .sites ≡ rows * columns
+  unfolding grid-of
+  sites-are = refl
+
   pub m-in : (u v : ℕ) → u < rows * columns → v < rows * columns
       → grid-of rows columns .m u v ≡ one (neighbours (row-of columns u) (column-of columns u) (row-of columns v) (column-of columns v))
   unfolding grid-of

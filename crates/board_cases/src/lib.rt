@@ -214,13 +214,13 @@ mod layers {
     use super::told;
     use board::Board;
     use board::End;
-    use layer::cut::Cut;
-    use layer::cut::CutBoard;
     use board::degree;
-    use layer::earth::Earth;
-    use layer::earth::EarthBoard;
     use board::grid::Grid;
     use board::grid::GridBoard;
+    use layer::cut::Cut;
+    use layer::cut::CutBoard;
+    use layer::earth::Earth;
+    use layer::earth::EarthBoard;
     use layer::merge::Merge;
     use layer::merge::MergeBoard;
     use pile::worked::ends_merged;

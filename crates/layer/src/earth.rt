@@ -6,9 +6,9 @@ ghost use Rattle.std.specs.declared.option.Option.the-variants.{None as Nothing
 ghost use Rattle.refusal.specs.Table.{In-order, rows as rows-of};
 ghost use Rattle.board.specs.Shape.{Shape};
 ghost use Rattle.layer.specs.Earths.{earth-active, earth-of, earth-checks, Earth-on, Earthing};
-use board::Board;
 use crate::site::lifted;
 use crate::site::next_but;
+use board::Board;
 use refusal::Part;
 use refusal::Refusal;
 use refusal::Row;

@@ -16,14 +16,14 @@ pub mod worked;
 
 use board::Board;
 use board::End;
-use layer::cut::Cut;
-use layer::earth::Earth;
-use layer::earth::EarthBoard;
 use board::grid::Grid;
 use board::grid::GridBoard;
 use board::link::Link;
 use board::list::LinkList;
 use board::list::ListBoard;
+use layer::cut::Cut;
+use layer::earth::Earth;
+use layer::earth::EarthBoard;
 use layer::merge::Merge;
 use layer::merge::MergeBoard;
 use layer::merge::Pair;

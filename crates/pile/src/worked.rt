@@ -8,9 +8,9 @@ use crate::with_earth;
 use crate::with_merge;
 use board::Board;
 use board::degree;
-use layer::earth::EarthBoard;
 use board::grid::Grid;
 use board::grid::GridBoard;
+use layer::earth::EarthBoard;
 use layer::merge::MergeBoard;
 use refusal::Refusal;
 

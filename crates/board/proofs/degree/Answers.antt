@@ -1,3 +1,4 @@
+-- What is left to show of `degree`.
 use native.Mathlib.Omega.{arith}
 use Rattle.board.specs.Shape.{sum-below}
 use Rattle.board.proofs.Walks.{deg-is, linked-on, walk-on, walk-le, walk-end}

@@ -1,3 +1,4 @@
+-- What is left to show of `laws_hold`.
 use mathlib.Core.Path.{refl}
 use Rattle.board.proofs.Walks.{follows, degrees}
 use Rattle.board.proofs.laws_hold.Needs as need

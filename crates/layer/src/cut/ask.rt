@@ -5,10 +5,10 @@ ghost use Rattle.board.specs.Links.{all-fit};
 ghost use Rattle.layer.specs.Cuts.{cut-of};
 use super::Cut;
 use super::make::rest;
-use board::Board;
 use crate::table::all_on;
 use crate::table::sum_drain;
 use crate::table::sum_links;
+use board::Board;
 
 impl<B: Board> Cut<B> {
     // Whether every entry is on the board below.

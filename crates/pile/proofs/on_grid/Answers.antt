@@ -1,3 +1,4 @@
+-- What is left to show of `on_grid`.
 use mathlib.Core.Path.{_∙_, ap}
 use Rattle.board.specs.Grids.{grid-of}
 use Rattle.layer.specs.Earths.{earth-of}

@@ -1,3 +1,4 @@
+-- What is left to show of `on_list`.
 use Rattle.board.specs.Adding.{shape-of}
 use Rattle.layer.specs.Earths.{earth-of}
 use Rattle.layer.specs.Merges.{merge-of}

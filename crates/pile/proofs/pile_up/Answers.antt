@@ -1,3 +1,4 @@
+-- What is left to show of `pile_up`.
 use Rattle.layer.specs.Earths.{earth-of}
 use Rattle.layer.specs.Merges.{merge-of}
 use Rattle.layer.specs.Cuts.{cut-of}

@@ -1,3 +1,4 @@
+-- What is left to show of `row_of_three`.
 use native.Mathlib.Omega.{arith}
 use mathlib.Core.Path.{_≡_, _∙_, ap}
 use Rattle.board.specs.declared.link.End.the-variants.{Site, Drain}

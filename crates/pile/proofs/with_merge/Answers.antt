@@ -1,3 +1,4 @@
+-- What is left to show of `with_merge`.
 use mathlib.Core.Path.{_∙_, ap}
 use Rattle.std.specs.declared.result.Result.the-variants.{Ok, Err}
 use Rattle.layer.specs.Merges.{merge-of}

@@ -1,3 +1,4 @@
+-- What is left to show of `sides`.
 use native.Mathlib.Omega.{arith}
 use mathlib.Core.Path.{_≡_, sym, subst}
 use Prim.Native.Nat.{ℕ, _-_}

@@ -1,3 +1,4 @@
+-- What is left to show of `next_neighbour`.
 use native.Mathlib.Omega.{arith}
 use Rattle.board.proofs.Grids.{No-above, No-left, No-right, No-under, next-above, next-left, next-right, next-under, next-none}
 use Rattle.board.proofs.grid.next_neighbour.Needs as need

@@ -1,3 +1,4 @@
+-- What is left to show of `all_on`.
 use mathlib.Core.Path.{_≡_, refl, sym, _∙_, ap}
 use mathlib.Core.Bool.{true, _&&_}
 use lib.ListN.{getD}

@@ -1,3 +1,4 @@
+-- The loop of `all_on`: what it keeps.
 use mathlib.Core.Path.{_≡_}
 use mathlib.Core.Bool.{true}
 use Rattle.board.specs.Links.{all-fit}

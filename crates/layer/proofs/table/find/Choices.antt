@@ -1,3 +1,4 @@
+-- The loop of `find`: what it keeps.
 use Prim.Native.Nat.{ℕ, _<_}
 use mathlib.Core.Path.{_≡_}
 use mathlib.Core.Bool.{false}

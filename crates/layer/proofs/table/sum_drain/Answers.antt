@@ -1,3 +1,4 @@
+-- What is left to show of `sum_drain`.
 use native.Mathlib.Omega.{arith}
 use Prim.Native.Nat.{_≤_}
 use Rattle.board.proofs.Tables.{s-of-none, s-of-more, s-of-low}

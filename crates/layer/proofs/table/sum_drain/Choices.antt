@@ -1,3 +1,4 @@
+-- The loop of `sum_drain`: what it keeps.
 use mathlib.Core.Path.{_≡_}
 use Rattle.board.specs.Links.{s-of}
 use Rattle.layer.proofs.table.sum_drain.Given as given

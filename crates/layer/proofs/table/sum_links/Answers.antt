@@ -1,3 +1,4 @@
+-- What is left to show of `sum_links`.
 use native.Mathlib.Omega.{arith}
 use Prim.Native.Nat.{_≤_}
 use Rattle.board.proofs.Tables.{m-of-none, m-of-more, m-of-low}

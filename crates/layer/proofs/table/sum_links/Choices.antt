@@ -1,3 +1,4 @@
+-- The loop of `sum_links`: what it keeps.
 use mathlib.Core.Path.{_≡_}
 use Rattle.board.specs.Links.{m-of}
 use Rattle.layer.proofs.table.sum_links.Given as given

@@ -1,3 +1,4 @@
+-- What is left to show of `ends_merged`.
 use mathlib.Core.Path.{_≡_, _∙_, ap}
 use Rattle.std.specs.declared.result.Result.the-variants.{Ok}
 use Rattle.layer.specs.Merges.{merged}

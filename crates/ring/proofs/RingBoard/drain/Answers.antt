@@ -1,3 +1,4 @@
+-- What is left to show of `drain`.
 use mathlib.Core.Path.{sym}
 use Rattle.std.proofs.shelf.Tests.{cond-true, cond-false, eq-eqb, ne-eqb}
 use Rattle.ring.specs.Rings.{ring-of}

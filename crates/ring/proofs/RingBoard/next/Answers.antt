@@ -1,3 +1,4 @@
+-- What is left to show of `next`.
 use native.Mathlib.Omega.{arith}
 use Rattle.ring.proofs.Round.{m-off-left}
 use Rattle.ring.proofs.RingBoard.next.Needs as need

@@ -1,3 +1,4 @@
+-- The laws of a board, for `RingBoard`.
 use Rattle.ring.proofs.Round.{ring-sound}
 use Rattle.ring.proofs.RingBoard.the-impl.Needs as need
 

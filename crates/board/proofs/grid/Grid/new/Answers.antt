@@ -1,3 +1,4 @@
+-- What is left to show of `new`.
 use native.Mathlib.Omega.{arith}
 use borrow.Author.Needs.{needs}
 use mathlib.Core.Path.{refl}

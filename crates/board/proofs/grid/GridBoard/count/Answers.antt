@@ -1,7 +1,7 @@
-use mathlib.Core.Path.{refl}
-use Rattle.board.specs.Grids.{grid-of}
+-- What is left to show of `count`.
+use native.Mathlib.Omega.{arith}
+use Rattle.board.proofs.Grids.{sites-are}
 use Rattle.board.proofs.grid.GridBoard.count.Needs as need
 
 pub returns : need.returns
-unfolding grid-of
-returns c = refl
+returns c = omega (arith, sites-are (c .args .self .now .rows) (c .args .self .now .columns))

@@ -1,3 +1,4 @@
+-- What is left to show of `drain`.
 use native.Mathlib.Omega.{arith}
 use mathlib.Core.Path.{sym}
 use Rattle.board.proofs.Grids.{s-off, s-in}

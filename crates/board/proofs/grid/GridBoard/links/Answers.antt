@@ -1,3 +1,4 @@
+-- What is left to show of `links`.
 use native.Mathlib.Omega.{arith}
 use native.Mathlib.Nat.{mul-le-mul}
 use Prim.Native.Nat.{_*_, _≤_}
@@ -29,4 +30,4 @@ are-neighbours-requires c κs =
 pub returns : need.returns
 returns c =
     let g = c .args .self .now in
-    c .one-if .ensures ∙ ap one (c .are-neighbours .ensures) ∙ sym (m-in (g .rows) (g .columns) (c .args .u) (c .args .v) (omega arith) (omega arith))
+    omega (arith, c .one-if .ensures, ap one (c .are-neighbours .ensures), m-in (g .rows) (g .columns) (c .args .u) (c .args .v) (omega arith) (omega arith))

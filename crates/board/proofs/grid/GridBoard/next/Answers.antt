@@ -1,3 +1,4 @@
+-- What is left to show of `next`.
 use native.Mathlib.Omega.{arith}
 use Rattle.board.proofs.Grids.{m-off-left}
 use Rattle.board.proofs.grid.GridBoard.next.Needs as need

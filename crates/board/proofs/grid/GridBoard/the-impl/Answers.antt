@@ -1,3 +1,4 @@
+-- The laws of a board, for `GridBoard`.
 use Rattle.board.proofs.Grids.{grid-sound}
 use Rattle.board.proofs.grid.GridBoard.the-impl.Needs as need
 

@@ -1,3 +1,4 @@
+-- What is left to show of `add`.
 use native.Mathlib.Omega.{arith}
 use Prim.Native.Nat.{ℕ, _+_, _<_, _≤_}
 use lib.ListN.{length}

@@ -1,3 +1,4 @@
+-- What is left to show of `idle`.
 use mathlib.Core.Path.{refl}
 use Rattle.layer.proofs.Cutting.{cut-none}
 use Rattle.layer.proofs.cut.Cut.idle.Needs as need

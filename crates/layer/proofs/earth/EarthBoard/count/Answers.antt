@@ -1,3 +1,4 @@
+-- What is left to show of `count`.
 use native.Mathlib.Omega.{arith}
 use Rattle.layer.proofs.Earthed.{at-sites}
 use Rattle.layer.proofs.earth.EarthBoard.count.Needs as need

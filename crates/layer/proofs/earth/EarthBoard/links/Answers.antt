@@ -1,6 +1,8 @@
+-- What is left to show of `links`.
 use native.Mathlib.Omega.{arith}
 use mathlib.Core.Path.{_≡_, refl, sym, _∙_, ap}
 use mathlib.Core.Logic.{_⊎_, inl, inr}
+use Rattle.layer.specs.Layers.{up}
 use Rattle.layer.proofs.Earthed.{at-m, off-zero}
 use Rattle.layer.proofs.earth.EarthBoard.links.Needs as need
 
@@ -17,5 +19,5 @@ pub returns : need.returns
 returns g c =
     let b = g .B·Board .shape (c .args .self .now .below) in
     let one = ap (λ x. b .m x (c .lifted-2 .result)) (c .lifted .ensures) in
-    let two = ap (b .m _) (c .lifted-2 .ensures) in
-    c .links-2 .ensures ∙ one ∙ two ∙ sym (at-m b (c .args .self .now .site) (c .in-Some .w) (c .in-Some .ensures tt .is) (c .args .u) (c .args .v))
+    let two = ap (b .m (up (c .in-Some .w) (c .args .u))) (c .lifted-2 .ensures) in
+    omega (arith, c .links-2 .ensures, one, two, at-m b (c .args .self .now .site) (c .in-Some .w) (c .in-Some .ensures tt .is) (c .args .u) (c .args .v))

@@ -1,3 +1,4 @@
+-- The laws of a board, for `EarthBoard`.
 use Rattle.layer.proofs.Earthed.{earth-sound}
 use Rattle.layer.proofs.earth.EarthBoard.the-impl.Needs as need
 

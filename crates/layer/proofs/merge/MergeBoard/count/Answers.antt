@@ -1,3 +1,4 @@
+-- What is left to show of `count`.
 use native.Mathlib.Omega.{arith}
 use Rattle.layer.proofs.Merged.{at-sites}
 use Rattle.layer.proofs.merge.MergeBoard.count.Needs as need

@@ -1,3 +1,4 @@
+-- What is left to show of `next`.
 use native.Mathlib.Omega.{arith}
 use Prim.Native.Nat.{_-_, _<_}
 use mathlib.Core.Path.{_≡_, sym}

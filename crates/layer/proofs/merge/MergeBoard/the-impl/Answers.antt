@@ -1,3 +1,4 @@
+-- The laws of a board, for `MergeBoard`.
 use Rattle.layer.proofs.Merged.{merge-sound}
 use Rattle.layer.proofs.merge.MergeBoard.the-impl.Needs as need
 

@@ -1,3 +1,4 @@
+-- What is left to show of `drain`.
 use native.Mathlib.Omega.{arith}
 use Rattle.board.proofs.Tables.{s-of-none, s-of-more}
 use Rattle.board.proofs.Listed.{drain-fit, list-sound}

@@ -1,3 +1,4 @@
+-- The loop of `drain`: what it keeps.
 use mathlib.Core.Path.{_≡_}
 use Rattle.board.specs.Links.{s-of}
 use Rattle.board.proofs.list.ask.ListBoard.drain.Given as given

@@ -1,3 +1,4 @@
+-- What is left to show of `links`.
 use native.Mathlib.Omega.{arith}
 use Rattle.board.proofs.Tables.{m-of-none, m-of-more}
 use Rattle.board.proofs.Listed.{links-fit, list-sound}

@@ -1,3 +1,4 @@
+-- The loop of `links`: what it keeps.
 use mathlib.Core.Path.{_≡_}
 use Rattle.board.specs.Links.{m-of}
 use Rattle.board.proofs.list.ask.ListBoard.links.Given as given

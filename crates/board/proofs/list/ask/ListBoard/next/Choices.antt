@@ -1,3 +1,4 @@
+-- The loop of `next`: what it keeps.
 use Rattle.board.specs.Shape.{NextIs}
 use Rattle.board.specs.Lists.{listed}
 use Rattle.board.proofs.list.ask.ListBoard.next.Given as given

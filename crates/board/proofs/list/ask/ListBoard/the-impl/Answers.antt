@@ -1,3 +1,4 @@
+-- The laws of a board, for `ListBoard`.
 use Rattle.board.proofs.Listed.{list-sound}
 use Rattle.board.proofs.list.ask.ListBoard.the-impl.Needs as need
 

@@ -1,3 +1,4 @@
+-- What is left to show of `next`.
 use native.Mathlib.Omega.{arith}
 use Rattle.board.proofs.Walks.{linked-on}
 use Rattle.layer.proofs.cut.ask.CutBoard.next.Needs as need

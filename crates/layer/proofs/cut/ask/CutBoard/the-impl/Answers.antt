@@ -1,3 +1,4 @@
+-- The laws of a board, for `CutBoard`.
 use Rattle.layer.proofs.Cutting.{cut-sound}
 use Rattle.layer.proofs.cut.ask.CutBoard.the-impl.Needs as need
 
