@@ -10,3 +10,6 @@ pub mod Exist
 pub mod Rounds
 pub mod Group
 pub mod Stands
+pub mod Computed
+pub mod Examples
+pub mod Trials

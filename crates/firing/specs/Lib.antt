@@ -6,3 +6,5 @@ pub mod Burning
 pub mod Groups
 pub mod Laws
 pub mod Tests
+pub mod Worked
+pub mod Checks
