@@ -8,12 +8,12 @@ use lib.Dec.{lit≤, lit<}
 use Rattle.board.specs.Shape.{Shape, Sound, deg, sum-below}
 use Rattle.board.specs.Grids.{grid-of}
 use Rattle.board.proofs.Grids.{grid-sound}
-use Rattle.firing.specs.Firing.{fires-from, CanFire, Lowest}
+use Rattle.firing.specs.Firing.{at, fires-from, CanFire, Lowest}
 use Rattle.firing.specs.Settling.{Least, Settled}
 use Rattle.firing.specs.TakingBack.{TakesBack, Largest}
 use Rattle.firing.specs.Burning.{Rounds, AllBurn}
 use Rattle.firing.specs.Groups.{Full, Identity}
-use Rattle.firing.specs.Worked.{at, Comes, Certified, EndFires, TakenBack, Worked}
+use Rattle.firing.specs.Worked.{Comes, Certified, EndFires, TakenBack, Worked}
 use Rattle.firing.proofs.Computed as computed
 
 pub sound-one : Sound (grid-of 1 1)

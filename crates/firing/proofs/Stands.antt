@@ -4,8 +4,8 @@ use Prim.Native.Nat.{ℕ, _+_, _≤_, _<_}
 use native.Mathlib.Omega.{arith}
 use Rattle.board.specs.Shape.{Shape, Sound, deg}
 use Rattle.firing.specs.Firing.{fires-from}
-use Rattle.firing.specs.Laws.{Run-follows, Conserves, Least-action, Fewer-settle, Run-least, Runs-agree, Min-settles, Least-once, Reach-linked, Settling-exists, Least-exists, Settled-once}
-use Rattle.firing.specs.Tests.{Plain-heights, Certificate-law, Union-back, Largest-back, Rounds-once, Burning-law, Identity-once}
+use Rattle.firing.specs.Laws.{Run-follows, Conserves, Least-action, Fewer-settle, Run-least, Runs-agree, Min-settles, Least-once, Reach-linked, Settling-exists, Least-exists, Settled-once, Identity-once}
+use Rattle.firing.specs.SetLaws.{Plain-heights, Certificate-law, Union-back, Largest-back, Rounds-once, Burning-law}
 use Rattle.firing.proofs.Action as action
 use Rattle.firing.proofs.Back as taking
 use Rattle.firing.proofs.Reach as reach

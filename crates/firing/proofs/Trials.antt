@@ -11,13 +11,12 @@ use Rattle.board.specs.Shape.{Shape, Sound, deg, sum-below}
 use Rattle.board.specs.declared.link.End.the-variants.{Site, Drain}
 use Rattle.board.specs.Grids.{grid-of}
 use Rattle.board.specs.Lists.{bare, linked}
-use Rattle.firing.specs.Firing.{fires-from, CanFire, Still, Fires, Counts, Run, begin, fire}
+use Rattle.firing.specs.Firing.{at, fires-from, CanFire, Still, Fires, Counts, Run, begin, fire, Lowest}
 use Rattle.firing.specs.Settling.{inflow, drained, Settles, Follows, Least, Settled}
-use Rattle.firing.specs.Reaching.{Reaches, out, along}
-use Rattle.firing.specs.TakingBack.{TakesBack, Largest}
+use Rattle.firing.specs.Reaching.{Reaches, out, along, AllReach, AllLinked}
+use Rattle.firing.specs.TakingBack.{TakesBack, Empty, Largest}
 use Rattle.firing.specs.Burning.{Rounds, AllBurn, Recurrent, Stays}
 use Rattle.firing.specs.Groups.{Sum, Full}
-use Rattle.firing.specs.Worked.{at}
 use Rattle.firing.specs.Checks.{island, pier, Checks}
 use Rattle.firing.proofs.Action as action
 use Rattle.firing.proofs.Exist as exist
@@ -34,6 +33,23 @@ no-link (suc v) l p = omega arith
 not-still : Still (grid-of 1 2) (at (0 ∷ 4 ∷ [])) → ⊥
 unfolding grid-of deg sum-below fires-from
 not-still still = still 1 (lit< tt) (lit≤ tt, lit≤ tt)
+
+own-degree : CanFire pier (at (2 ∷ 2 ∷ [])) 0 × (CanFire pier (at (2 ∷ 2 ∷ [])) 1 → ⊥)
+unfolding linked deg sum-below fires-from
+own-degree = ((lit≤ tt, lit≤ tt), λ p. omega (arith, p .1))
+
+not-lowest : Lowest (grid-of 1 2) (CanFire (grid-of 1 2) (at (4 ∷ 4 ∷ []))) 1 → ⊥
+unfolding grid-of deg sum-below fires-from
+not-lowest l = l .before 0 (lit< tt) (lit≤ tt, lit≤ tt)
+
+fires-twice : Fires pier 1 (at (0 ∷ 3 ∷ [])) (at (2 ∷ 0 ∷ []))
+unfolding linked deg sum-below fires-from
+fires-twice = record { on = lit< tt; can = (lit≤ tt, lit≤ tt); gives = refl; gets = gets }
+  where
+    gets : (u : ℕ) → u < 2 → u ≢ 1 → at (2 ∷ 0 ∷ []) u ≡ at (0 ∷ 3 ∷ []) u + pier .m 1 u
+    gets zero l ne = refl
+    gets (suc zero) l ne = absurd (ne refl)
+    gets (suc (suc u)) l ne = absurd (omega arith)
 
 fires : Fires (grid-of 1 3) 0 (at (4 ∷ 0 ∷ 0 ∷ [])) (at (0 ∷ 1 ∷ 0 ∷ []))
 unfolding grid-of deg sum-below fires-from
@@ -111,6 +127,35 @@ no-chain : Reaches island 0 → ⊥
 unfolding linked sum-below
 no-chain r = both-ways (reach.within island 2 0) refl (reach.reaches-near island r)
 
+all-reach : AllReach pier
+unfolding linked
+all-reach zero l = by-chain
+all-reach (suc zero) l = out 1 (lit< tt) (lit≤ tt)
+all-reach (suc (suc v)) l = absurd (omega arith)
+
+linked-only : AllReach pier × AllLinked island × (AllReach island → ⊥)
+unfolding linked deg sum-below
+linked-only = (all-reach, computed.linked island refl, λ reaches. no-chain (reaches 0 (lit< tt)))
+
+back-links : TakesBack pier (at (1 ∷ 1 ∷ [])) (at (1 ∷ 1 ∷ [])) (λ v. true)
+unfolding linked deg sum-below fires-from
+back-links zero l e = (lit≤ tt, lit< tt)
+back-links (suc zero) l e = (lit≤ tt, lit< tt)
+back-links (suc (suc v)) l e = absurd (omega arith)
+
+empty : Empty (grid-of 1 2) (λ v. eqb v 9) × (Empty (grid-of 1 2) (λ v. eqb v 1) → ⊥)
+unfolding grid-of
+empty = (none, λ e. both-ways (eqb 1 1) (e 1 (lit< tt)) refl)
+  where
+    none : Empty (grid-of 1 2) (λ v. eqb v 9)
+    none zero l = refl
+    none (suc zero) l = refl
+    none (suc (suc v)) l = absurd (omega arith)
+
+full : Full pier (at (1 ∷ 2 ∷ []))
+unfolding linked deg sum-below fires-from
+full v l = computed.equal 2 (λ v. at (1 ∷ 2 ∷ []) v + 1) (fires-from pier) refl v l
+
 back-unfired : TakesBack (grid-of 1 2) (at (1 ∷ 0 ∷ [])) (at (0 ∷ 0 ∷ [])) (λ v. true) → ⊥
 unfolding grid-of
 back-unfired back = omega (arith, back 1 (lit< tt) refl .0)
@@ -151,6 +196,9 @@ checks =
       below-degree = λ p. omega (arith, p .1);
       no-link = no-link;
       not-still = not-still;
+      own-degree = own-degree;
+      not-lowest = not-lowest;
+      fires-twice = fires-twice;
       fires = fires;
       run = run;
       no-run = no-run;
@@ -167,10 +215,13 @@ checks =
       settled = (settled, not-settled);
       by-chain = by-chain;
       no-chain = no-chain;
+      linked-only = linked-only;
       back = examples.both-back;
       back-unfired = back-unfired;
       back-high = back-high;
+      back-links = back-links;
       back-alone = back-alone;
+      empty = empty;
       not-largest = not-largest;
       not-at-once = not-at-once;
       recurrent = recurrent;
@@ -178,7 +229,7 @@ checks =
       burns-unstill = (computed.burn (grid-of 1 2) (at (4 ∷ 0 ∷ [])) (at (1 ∷ 2 ∷ [])) refl refl, unstill);
       stays = λ v l e. examples.both-back v l e .1;
       sum = computed.settled (grid-of 1 2) examples.sound-pair refl (λ v. at (1 ∷ 0 ∷ []) v + at (3 ∷ 3 ∷ []) v) (at (1 ∷ 1 ∷ [])) (at (1 ∷ 0 ∷ [])) (at (1 ∷ 2 ∷ [])) refl refl refl refl;
-      full = λ v l. computed.equal 3 (λ v. at (3 ∷ 3 ∷ 3 ∷ []) v + 1) (fires-from (grid-of 1 3)) refl v l;
+      full = full;
     }
   where
     settled-least : Least (grid-of 1 2) (at (3 ∷ 3 ∷ [])) (at (0 ∷ 0 ∷ []))

@@ -8,17 +8,16 @@ use Rattle.board.specs.Shape.{Shape}
 use Rattle.board.specs.declared.link.End.the-variants.{Site, Drain}
 use Rattle.board.specs.Grids.{grid-of}
 use Rattle.board.specs.Lists.{bare, linked}
-use Rattle.firing.specs.Firing.{CanFire, Still, Fires, Run}
+use Rattle.firing.specs.Firing.{at, CanFire, Still, Fires, Run, Lowest}
 use Rattle.firing.specs.Settling.{inflow, drained, Settles, Follows, Least, Settled}
-use Rattle.firing.specs.Reaching.{Reaches}
-use Rattle.firing.specs.TakingBack.{TakesBack, Largest}
+use Rattle.firing.specs.Reaching.{Reaches, AllReach, AllLinked}
+use Rattle.firing.specs.TakingBack.{TakesBack, Empty, Largest}
 use Rattle.firing.specs.Burning.{Rounds, AllBurn, Recurrent, Stays}
 use Rattle.firing.specs.Groups.{Sum, Full}
-use Rattle.firing.specs.Worked.{at}
 
--- two sites with one link between them
+-- two sites with two links between them
 abbrev pub island : Shape
-island = linked (bare 2) (record { site = 0; other = Site 1; count = 1 })
+island = linked (bare 2) (record { site = 0; other = Site 1; count = 2 })
 
 -- the same, and a link from 1 to the drain
 abbrev pub pier : Shape
@@ -30,7 +29,12 @@ pub record Checks : Type 0 where
   pub below-degree : CanFire (grid-of 1 1) (at (3 ∷ [])) 0 → ⊥
   pub no-link : Still (bare 1) (at (7 ∷ []))
   pub not-still : Still (grid-of 1 2) (at (0 ∷ 4 ∷ [])) → ⊥
-  -- a firing gives neighbours their links, and other sites nothing
+  -- its own degree: 2 and 3 on the pier
+  pub own-degree : CanFire pier (at (2 ∷ 2 ∷ [])) 0 × (CanFire pier (at (2 ∷ 2 ∷ [])) 1 → ⊥)
+  -- the lowest site that can fire, and no other that can
+  pub not-lowest : Lowest (grid-of 1 2) (CanFire (grid-of 1 2) (at (4 ∷ 4 ∷ []))) 1 → ⊥
+  -- a firing gives a neighbour as many grains as links, and other sites nothing
+  pub fires-twice : Fires pier 1 (at (0 ∷ 3 ∷ [])) (at (2 ∷ 0 ∷ []))
   pub fires : Fires (grid-of 1 3) 0 (at (4 ∷ 0 ∷ 0 ∷ [])) (at (0 ∷ 1 ∷ 0 ∷ []))
   -- a run may go on where an earlier firing made it legal, and only there
   pub run : Run (grid-of 1 2) (at (4 ∷ 3 ∷ [])) (at (1 ∷ 0 ∷ [])) (at (1 ∷ 1 ∷ []))
@@ -51,11 +55,15 @@ pub record Checks : Type 0 where
   -- a chain of links leads to the drain, or there is none
   pub by-chain : Reaches pier 0
   pub no-chain : Reaches island 0 → ⊥
+  pub linked-only : AllReach pier × AllLinked island × (AllReach island → ⊥)
   -- only what has fired is taken back, only where it is lower than its links, and only links into the set count
   pub back : TakesBack (grid-of 1 2) (at (1 ∷ 1 ∷ [])) (at (0 ∷ 0 ∷ [])) (λ v. true)
   pub back-unfired : TakesBack (grid-of 1 2) (at (1 ∷ 0 ∷ [])) (at (0 ∷ 0 ∷ [])) (λ v. true) → ⊥
   pub back-high : TakesBack (grid-of 1 2) (at (1 ∷ 1 ∷ [])) (at (1 ∷ 0 ∷ [])) (λ v. true) → ⊥
+  pub back-links : TakesBack pier (at (1 ∷ 1 ∷ [])) (at (1 ∷ 1 ∷ [])) (λ v. true)
   pub back-alone : TakesBack (grid-of 1 2) (at (1 ∷ 1 ∷ [])) (at (0 ∷ 0 ∷ [])) (λ v. eqb v 0) → ⊥
+  -- a set is empty where it has no site of the board
+  pub empty : Empty (grid-of 1 2) (λ v. eqb v 9) × (Empty (grid-of 1 2) (λ v. eqb v 1) → ⊥)
   -- a largest set is none of the smaller ones
   pub not-largest : Largest (grid-of 1 2) (at (1 ∷ 1 ∷ [])) (at (0 ∷ 0 ∷ [])) (λ v. eqb v 9) → ⊥
   -- what burns in a round helps others only in the next, and burns once
@@ -65,6 +73,6 @@ pub record Checks : Type 0 where
   pub not-recurrent : Recurrent (grid-of 1 2) (at (0 ∷ 0 ∷ [])) → ⊥
   pub burns-unstill : AllBurn (grid-of 1 2) (at (4 ∷ 0 ∷ [])) × (Recurrent (grid-of 1 2) (at (4 ∷ 0 ∷ [])) → ⊥)
   pub stays : Stays (grid-of 1 2) (at (0 ∷ 0 ∷ [])) (λ v. true)
-  -- the identity of the pair, added, changes nothing
+  -- the identity of the pair, added, changes nothing; M is one below each degree
   pub sum : Sum (grid-of 1 2) (at (1 ∷ 0 ∷ [])) (at (3 ∷ 3 ∷ [])) (at (1 ∷ 0 ∷ []))
-  pub full : Full (grid-of 1 3) (at (3 ∷ 3 ∷ 3 ∷ []))
+  pub full : Full pier (at (1 ∷ 2 ∷ []))

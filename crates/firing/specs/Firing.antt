@@ -1,8 +1,14 @@
 -- Firing: the height from which a site can fire, one legal firing, and legal runs with their counts.
 use mathlib.Core.Path.{_≡_}
 use mathlib.Core.Logic.{_≢_}
+use mathlib.Core.List.{List}
 use Prim.Native.Nat.{ℕ, _+_, _≤_, _<_}
+use lib.ListN.{getD}
 use Rattle.board.specs.Shape.{Shape, deg}
+
+-- a list as heights or counts: what stands at v
+abbrev pub at : List ℕ → ℕ → ℕ
+at xs v = getD xs v 0
 
 -- the height from which v can fire: its degree
 unfoldable pub fires-from : Shape → ℕ → ℕ

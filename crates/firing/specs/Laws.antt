@@ -1,12 +1,11 @@
 -- The laws of firing and settling, each over every board.
 use mathlib.Core.Path.{_≡_}
-use mathlib.Core.Bool.{Bool, _||_}
-use mathlib.Core.Logic.{_↔_}
 use Prim.Native.Nat.{ℕ, _+_, _≤_, _<_, min}
 use Rattle.board.specs.Shape.{Shape, Sound, sum-below}
 use Rattle.firing.specs.Firing.{Still, Run}
 use Rattle.firing.specs.Settling.{drained, Settles, Follows, AtMost, Same, Least, Settled}
 use Rattle.firing.specs.Reaching.{AllReach, AllLinked}
+use Rattle.firing.specs.Groups.{Identity}
 
 -- after a legal run the heights follow from the start by the counts
 abbrev pub Run-follows : Type 0
@@ -55,3 +54,7 @@ Least-exists = (b : Shape) → Sound b → AllReach b → (c : ℕ → ℕ) → 
 -- settled heights exist, are still, and are unique
 abbrev pub Settled-once : Type 0
 Settled-once = (b : Shape) → Sound b → AllReach b → (c : ℕ → ℕ) → (h : ℕ → ℕ) × Settled b c h × Still b h × ((h′ : ℕ → ℕ) → Settled b c h′ → Same b h h′)
+
+-- where all sites reach the drain there is an identity, and only one
+abbrev pub Identity-once : Type 0
+Identity-once = (b : Shape) → Sound b → AllReach b → (e : ℕ → ℕ) × Identity b e × ((e′ : ℕ → ℕ) → Identity b e′ → Same b e e′)

@@ -5,6 +5,6 @@ pub mod TakingBack
 pub mod Burning
 pub mod Groups
 pub mod Laws
-pub mod Tests
+pub mod SetLaws
 pub mod Worked
 pub mod Checks

@@ -3,18 +3,13 @@ use mathlib.Core.Path.{_≡_}
 use mathlib.Core.Bool.{Bool, true}
 use mathlib.Core.List.{List, [], _∷_}
 use Prim.Native.Nat.{ℕ}
-use lib.ListN.{getD}
 use Rattle.board.specs.Shape.{Shape}
 use Rattle.board.specs.Grids.{grid-of}
-use Rattle.firing.specs.Firing.{CanFire, Still, Lowest}
+use Rattle.firing.specs.Firing.{at, CanFire, Still, Lowest}
 use Rattle.firing.specs.Settling.{drained, Follows, Least}
 use Rattle.firing.specs.TakingBack.{TakesBack, Empty, Largest}
 use Rattle.firing.specs.Burning.{Rounds}
 use Rattle.firing.specs.Groups.{Identity}
-
--- a written list as heights or counts: what stands at v
-abbrev pub at : List ℕ → ℕ → ℕ
-at xs v = getD xs v 0
 
 -- from the start c the least settling counts are w; they lead to h, and d grains drain
 pub record Comes (b : Shape) (c w h : ℕ → ℕ) (d : ℕ) : Type 0 where

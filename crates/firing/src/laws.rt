@@ -1,6 +1,6 @@
 // The laws of the subject, each the contract of a function of its own: there is nothing to run.
-ghost use Rattle.firing.specs.Laws.{Run-follows, Conserves, Least-action, Fewer-settle, Run-least, Runs-agree, Min-settles, Least-once, Reach-linked, Settling-exists, Least-exists, Settled-once};
-ghost use Rattle.firing.specs.Tests.{Plain-heights, Certificate-law, Union-back, Largest-back, Rounds-once, Burning-law, Identity-once};
+ghost use Rattle.firing.specs.Laws.{Run-follows, Conserves, Least-action, Fewer-settle, Run-least, Runs-agree, Min-settles, Least-once, Reach-linked, Settling-exists, Least-exists, Settled-once, Identity-once};
+ghost use Rattle.firing.specs.SetLaws.{Plain-heights, Certificate-law, Union-back, Largest-back, Rounds-once, Burning-law};
 
 // After a legal run the heights follow from the start by the counts.
 pub fn run_follows() -> u8
@@ -86,6 +86,13 @@ pub fn settled_once() -> u8
     0
 }
 
+// Where all sites reach the drain there is an identity, and only one.
+pub fn identity_once() -> u8
+    ensures { λ _. ⌜ Identity-once ⌝ }
+{
+    0
+}
+
 // Lower and as high, in plain numbers.
 pub fn plain_heights() -> u8
     ensures { λ _. ⌜ Plain-heights ⌝ }
@@ -124,13 +131,6 @@ pub fn rounds_once() -> u8
 // Every site burns if and only if no nonempty set stays.
 pub fn burning_law() -> u8
     ensures { λ _. ⌜ Burning-law ⌝ }
-{
-    0
-}
-
-// Where all sites reach the drain there is an identity, and only one.
-pub fn identity_once() -> u8
-    ensures { λ _. ⌜ Identity-once ⌝ }
 {
     0
 }

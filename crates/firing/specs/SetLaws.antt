@@ -1,4 +1,4 @@
--- The laws of the tests: certificates, burning, the group, each over every board.
+-- The laws of sets of sites, what can be taken back and what burns, each over every board.
 use mathlib.Core.Path.{_≡_}
 use mathlib.Core.Bool.{Bool, _||_}
 use mathlib.Core.Logic.{_↔_}
@@ -6,10 +6,9 @@ use Prim.Native.Nat.{ℕ, _+_, _≤_, _<_}
 use Rattle.board.specs.Shape.{Shape, Sound}
 use Rattle.firing.specs.Firing.{Still}
 use Rattle.firing.specs.Settling.{Follows, Same, Least}
-use Rattle.firing.specs.Reaching.{AllReach, AllLinked}
+use Rattle.firing.specs.Reaching.{AllLinked}
 use Rattle.firing.specs.TakingBack.{links-into, Lower, AsHigh, TakesBack, Empty, Largest}
 use Rattle.firing.specs.Burning.{Rounds, AllBurn, Stays}
-use Rattle.firing.specs.Groups.{Identity}
 
 -- in plain numbers: a height below its links into a set, or at least as high
 abbrev pub Plain-heights : Type 0
@@ -34,7 +33,3 @@ Rounds-once = (b : Shape) → Sound b → (h : ℕ → ℕ) → (r : ℕ → ℕ
 -- every site burns if and only if no set but the empty one stays
 abbrev pub Burning-law : Type 0
 Burning-law = (b : Shape) → Sound b → (h : ℕ → ℕ) → AllBurn b h ↔ ((S : ℕ → Bool) → Stays b h S → Empty b S)
-
--- where all sites reach the drain there is an identity, and only one
-abbrev pub Identity-once : Type 0
-Identity-once = (b : Shape) → Sound b → AllReach b → (e : ℕ → ℕ) × Identity b e × ((e′ : ℕ → ℕ) → Identity b e′ → Same b e e′)
