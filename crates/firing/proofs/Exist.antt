@@ -13,11 +13,12 @@ use Rattle.board.proofs.Sums.{sum-up, sum-term}
 use Rattle.firing.specs.Firing.{fires-from, CanFire, Still, Fires, Counts, Run, begin, fire}
 use Rattle.firing.specs.Settling.{inflow, Settles, Same, Least, Settled}
 use Rattle.firing.specs.Reaching.{AllReach, AllLinked}
-use Rattle.firing.proofs.Sums.{sum-scale, sum-point, sum-jump}
+use Rattle.firing.proofs.Sums.{sum-scale, sum-jump}
 use Rattle.firing.proofs.Degrees.{deg-in, deg-fires-from}
 use Rattle.firing.proofs.Choosing.{somewhere}
 use Rattle.firing.proofs.Reach.{Layers, dist, distances, reach-linked}
 use Rattle.firing.proofs.Action as action
+use Rattle.firing.proofs.Runs.{counts-total}
 
 -- what one layer fires more often than the one before it, j layers from the last: D times what the next one adds, and K
 abbrev pub gap : ℕ → ℕ → ℕ → ℕ
@@ -164,9 +165,6 @@ module _ (b : Shape) where
       go (yes p) (no q) = no (λ r. q (r .1))
       go (no p) d = no (λ r. p (r .0))
 
-  pub counted-total : (x : ℕ) (w : ℕ → ℕ) → x < b .sites → sum-below (b .sites) (counted x w) ≡ sum-below (b .sites) w + 1
-  counted-total x w l = sum-point (b .sites) w (counted x w) x 1 l (counts x w .one-more) (counts x w .others)
-
   -- a legal run from c to still heights
   abbrev pub Ends : (ℕ → ℕ) → Type 0
   Ends c = (h : ℕ → ℕ) × ((w : ℕ → ℕ) × Run b c h w × Still b h)
@@ -179,7 +177,7 @@ module _ (b : Shape) where
         elim (somewhere (CanFire b h) (can-fire-dec h) (b .sites)) [
           | inl f ↦
               run-out k (fired b (f .0) h) (counted (f .0) w)
-              (fire (f .0) r (fires (f .0) h (f .1) (f .2)) (counts (f .0) w)) (omega (arith, counted-total (f .0) w (f .1)))
+              (fire (f .0) r (fires (f .0) h (f .1) (f .2)) (counts (f .0) w)) (omega (arith, counts-total b w (counted (f .0) w) (f .0) (f .1) (counts (f .0) w)))
           | inr never ↦ (h, (w, r, never))
         ]
 

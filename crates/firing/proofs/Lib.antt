@@ -1,6 +1,7 @@
 pub mod Sums
 pub mod Degrees
 pub mod Action
+pub mod Runs
 pub mod Choosing
 pub mod Sets
 pub mod Back

@@ -17,7 +17,7 @@ use Rattle.firing.specs.Reaching.{Reaches, out, along, AllReach, AllLinked}
 use Rattle.firing.specs.TakingBack.{TakesBack, Empty, Largest}
 use Rattle.firing.specs.Burning.{Rounds, AllBurn, Recurrent, Stays}
 use Rattle.firing.specs.Groups.{Sum, Full}
-use Rattle.firing.specs.Checks.{island, pier, Checks}
+use Rattle.firing.specs.Checks.{island, pier, shore, Checks}
 use Rattle.firing.proofs.Action as action
 use Rattle.firing.proofs.Exist as exist
 use Rattle.firing.proofs.Reach as reach
@@ -123,9 +123,12 @@ by-chain : Reaches pier 0
 unfolding linked
 by-chain = along 0 1 (lit< tt) (lit≤ tt) (out 1 (lit< tt) (lit≤ tt))
 
-no-chain : Reaches island 0 → ⊥
+no-chain : (Reaches island 0 → ⊥) × (Reaches shore 0 → ⊥)
 unfolding linked sum-below
-no-chain r = both-ways (reach.within island 2 0) refl (reach.reaches-near island r)
+no-chain = (
+  λ r. both-ways (reach.within island 2 0) refl (reach.reaches-near island r),
+  λ r. both-ways (reach.within shore 2 0) refl (reach.reaches-near shore r),
+)
 
 all-reach : AllReach pier
 unfolding linked
@@ -135,7 +138,7 @@ all-reach (suc (suc v)) l = absurd (omega arith)
 
 linked-only : AllReach pier × AllLinked island × (AllReach island → ⊥)
 unfolding linked deg sum-below
-linked-only = (all-reach, computed.linked island refl, λ reaches. no-chain (reaches 0 (lit< tt)))
+linked-only = (all-reach, computed.linked island refl, λ reaches. no-chain .0 (reaches 0 (lit< tt)))
 
 back-links : TakesBack pier (at (1 ∷ 1 ∷ [])) (at (1 ∷ 1 ∷ [])) (λ v. true)
 unfolding linked deg sum-below fires-from

@@ -23,6 +23,10 @@ island = linked (bare 2) (record { site = 0; other = Site 1; count = 2 })
 abbrev pub pier : Shape
 pier = linked island (record { site = 1; other = Drain; count = 1 })
 
+-- two sites with no link between them, and a link from 1 to the drain
+abbrev pub shore : Shape
+shore = linked (bare 2) (record { site = 1; other = Drain; count = 1 })
+
 pub record Checks : Type 0 where
   -- a site fires at its degree, not only above it; not below; never without a link
   pub at-degree : CanFire (grid-of 1 1) (at (4 ∷ [])) 0
@@ -54,7 +58,7 @@ pub record Checks : Type 0 where
   pub settled : Settled (grid-of 1 2) (at (3 ∷ 3 ∷ [])) (at (3 ∷ 3 ∷ [])) × (Settled (grid-of 1 2) (at (3 ∷ 3 ∷ [])) (at (0 ∷ 0 ∷ [])) → ⊥)
   -- a chain of links leads to the drain, or there is none
   pub by-chain : Reaches pier 0
-  pub no-chain : Reaches island 0 → ⊥
+  pub no-chain : (Reaches island 0 → ⊥) × (Reaches shore 0 → ⊥)
   pub linked-only : AllReach pier × AllLinked island × (AllReach island → ⊥)
   -- only what has fired is taken back, only where it is lower than its links, and only links into the set count
   pub back : TakesBack (grid-of 1 2) (at (1 ∷ 1 ∷ [])) (at (0 ∷ 0 ∷ [])) (λ v. true)

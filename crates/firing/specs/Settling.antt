@@ -20,10 +20,11 @@ Settles b c w = (v : ℕ) → v < b .sites → c v + inflow b w v < fires-from b
 abbrev pub Follows : Shape → (ℕ → ℕ) → (ℕ → ℕ) → (ℕ → ℕ) → Type 0
 Follows b c w h = (v : ℕ) → v < b .sites → h v + deg b v * w v ≡ c v + inflow b w v
 
--- one list is at most another, and equal to another, at each site
+-- w is at most w′ at each site
 abbrev pub AtMost : Shape → (ℕ → ℕ) → (ℕ → ℕ) → Type 0
 AtMost b w w′ = (v : ℕ) → v < b .sites → w v ≤ w′ v
 
+-- w is w′ at each site
 abbrev pub Same : Shape → (ℕ → ℕ) → (ℕ → ℕ) → Type 0
 Same b w w′ = (v : ℕ) → v < b .sites → w v ≡ w′ v
 
