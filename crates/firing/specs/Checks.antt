@@ -46,7 +46,7 @@ pub record Checks : Type 0 where
   -- what comes in is counted by the neighbours' firings, what drains by the site's own drain links
   pub comes-in : (inflow (grid-of 1 3) (at (1 ∷ 2 ∷ 4 ∷ [])) 0 ≡ 2) × (inflow (grid-of 1 3) (at (1 ∷ 2 ∷ 4 ∷ [])) 1 ≡ 5)
   pub drains : (drained (grid-of 1 3) (at (1 ∷ 0 ∷ 0 ∷ [])) ≡ 3) × (drained (grid-of 1 3) (at (0 ∷ 1 ∷ 0 ∷ [])) ≡ 2)
-  -- a list settles also where it makes a height less than 0: here −4 at site 0, but for the 5 that come in; −19 at site 1
+  -- a list settles also where a value is less than 0, as −19 at site 1; nothing is cut off at 0, as −4 at site 0 before 5 come in
   pub below-zero : Settles (grid-of 1 2) (at (0 ∷ 0 ∷ [])) (at (1 ∷ 5 ∷ []))
   pub unsettled : Settles (grid-of 1 2) (at (4 ∷ 3 ∷ [])) (at (0 ∷ 0 ∷ [])) → ⊥
   -- no heights follow there, since none is less than 0

@@ -9,7 +9,7 @@ use Rattle.firing.specs.Firing.{fires-from}
 abbrev pub links-into : Shape → (ℕ → Bool) → ℕ → ℕ
 links-into b S v = sum-below (b .sites) (λ u. cond (S u) (b .m v u) 0)
 
--- v is lower than its links into S: it could give them and take its own firing back, and still not fire
+-- v is lower than its links into S: with a firing of each site of S and of v itself taken back it would not fire
 abbrev pub Lower : Shape → (ℕ → ℕ) → (ℕ → Bool) → ℕ → Type 0
 Lower b h S v = h v + deg b v < fires-from b v + links-into b S v
 
