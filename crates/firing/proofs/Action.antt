@@ -1,17 +1,17 @@
 -- What a legal run keeps, and what settling lists bound.
-use mathlib.Core.Path.{_≡_, refl, sym, ap, _∙_}
+use mathlib.Core.Path.{_≡_, ap, _∙_}
 use mathlib.Core.Logic.{_≢_}
-use Prim.Native.Nat.{ℕ, zero, suc, _+_, _*_, _≤_, _<_, min}
+use Prim.Native.Nat.{ℕ, _+_, _*_, _≤_, _<_, min}
 use native.Mathlib.Omega.{arith}
 use native.Mathlib.Nat.{mul-le-mul-left, mul-zero, min-le-left, min-le-right, min-eq-left, min-eq-right}
 use native.Mathlib.Decide.{ℕ-discrete, decLe}
 use Rattle.board.specs.Shape.{Shape, Sound, deg, row-total, sum-below}
 use Rattle.board.proofs.Sums.{sum-same, sum-none, sum-up, sum-plus, sum-swap}
-use Rattle.firing.specs.Firing.{fires-from, CanFire, Still, Fires, Counts, Run, begin, fire}
+use Rattle.firing.specs.Firing.{fires-from, Still, Fires, Counts, Run, begin, fire}
 use Rattle.firing.specs.Settling.{inflow, drained, Settles, Follows, AtMost, Same, Least}
 use Rattle.firing.specs.Reaching.{AllLinked}
 use Rattle.firing.proofs.Sums.{sum-scale, sum-point}
-use Rattle.firing.proofs.Degrees.{deg-is, deg-fires-from}
+use Rattle.firing.proofs.Degrees.{deg-is}
 
 -- the site that fires, in numbers
 at-fired : (h h′ d w c i i′ m : ℕ) → h′ + d ≡ h → m ≡ 0 → h + d * w ≡ c + i → i′ ≡ i + m → h′ + d * (w + 1) ≡ c + i′

@@ -1,14 +1,14 @@
 -- When the counts of heights at rest are the least that settle, and the largest set that can be taken back.
-use mathlib.Core.Path.{_≡_, refl, sym, subst, ap, _∙_}
-use mathlib.Core.Logic.{_≢_, _⊎_, inl, inr}
+use mathlib.Core.Path.{_≡_, refl, ap, _∙_}
+use mathlib.Core.Logic.{inl, inr}
 use mathlib.Core.Bool.{Bool, true, false, cond, not, _&&_, _||_}
 use Prim.Native.Nat.{ℕ, zero, suc, _+_, _-_, _*_, _≤_, _<_}
 use native.Mathlib.Omega.{arith}
 use native.Mathlib.Nat.{mul-le-mul-left, mul-le-mul-right}
-use native.Mathlib.Decide.{ℕ-discrete, decLe}
+use native.Mathlib.Decide.{decLe}
 use lib.Dec.{eqb}
 use Rattle.std.proofs.shelf.Tests.{both-ways, eqb-true, eqb-false, eq-eqb, ne-eqb, or-cases, or-left, or-right, and-from, not-from-false}
-use Rattle.board.specs.Shape.{Shape, Sound, deg, row-total, sum-below}
+use Rattle.board.specs.Shape.{Shape, Sound, deg, sum-below}
 use Rattle.board.proofs.Sums.{sum-same, sum-up, sum-plus}
 use Rattle.firing.specs.Firing.{fires-from, Still}
 use Rattle.firing.specs.Settling.{inflow, Settles, Follows, AtMost, Least}

@@ -1,16 +1,15 @@
 -- Facts about each site of a small board, by computing a test.
-use mathlib.Core.Path.{_≡_, refl}
-use mathlib.Core.Bool.{Bool, true, false, not, _&&_}
-use Prim.Native.Nat.{ℕ, zero, suc, _+_, _*_, _≤_, _<_}
+use mathlib.Core.Path.{_≡_}
+use mathlib.Core.Bool.{Bool, true, not, _&&_}
+use Prim.Native.Nat.{ℕ, zero, suc, _+_, _*_, _<_}
 use native.Mathlib.Omega.{arith}
 use native.Mathlib.Decide.{ℕ-discrete}
 use lib.Dec.{leb, eqb, ltb}
 use Rattle.std.proofs.shelf.Tests.{leb-true, eqb-true, ltb-true, and-parts, not-true}
-use Rattle.board.specs.Shape.{Shape, Sound, deg, sum-below}
+use Rattle.board.specs.Shape.{Shape, Sound, deg}
 use Rattle.firing.specs.Firing.{fires-from, Still}
 use Rattle.firing.specs.Settling.{inflow, drained, Settles, Follows, Least, Settled}
 use Rattle.firing.specs.Reaching.{AllLinked}
-use Rattle.firing.specs.TakingBack.{TakesBack, Empty}
 use Rattle.firing.specs.Burning.{Rounds, AllBurn}
 use Rattle.firing.specs.Worked.{Comes, Certified}
 use Rattle.firing.proofs.Action.{below-still}

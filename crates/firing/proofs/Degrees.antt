@@ -1,6 +1,6 @@
 -- The degree, and the height from which a site fires: all that the proofs use of them.
 use mathlib.Core.Path.{_≡_, refl}
-use Prim.Native.Nat.{ℕ, _+_, _≤_, _<_}
+use Prim.Native.Nat.{ℕ, _+_, _≤_}
 use native.Mathlib.Omega.{arith}
 use Rattle.board.specs.Shape.{Shape, Sound, deg, row-total, sum-below}
 use Rattle.board.proofs.Sums.{sum-same}

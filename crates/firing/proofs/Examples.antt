@@ -1,18 +1,17 @@
 -- The worked results, computed.
-use mathlib.Core.Path.{_≡_, refl}
-use mathlib.Core.Bool.{Bool, true, false}
-use mathlib.Core.List.{List, [], _∷_}
-use Prim.Native.Nat.{ℕ, zero, suc, _+_, _*_, _≤_, _<_}
+use mathlib.Core.Path.{refl}
+use mathlib.Core.Bool.{true}
+use mathlib.Core.List.{[], _∷_}
+use Prim.Native.Nat.{ℕ, zero, suc, _+_, _*_, _<_}
 use native.Mathlib.Omega.{arith}
 use lib.Dec.{lit≤, lit<}
-use Rattle.board.specs.Shape.{Shape, Sound, deg, sum-below}
+use Rattle.board.specs.Shape.{Sound, deg, sum-below}
 use Rattle.board.specs.Grids.{grid-of}
 use Rattle.board.proofs.Grids.{grid-sound}
-use Rattle.firing.specs.Firing.{at, fires-from, CanFire, Lowest}
-use Rattle.firing.specs.Settling.{Least, Settled}
-use Rattle.firing.specs.TakingBack.{TakesBack, Largest}
-use Rattle.firing.specs.Burning.{Rounds, AllBurn}
-use Rattle.firing.specs.Groups.{Full, Identity}
+use Rattle.firing.specs.Firing.{at, fires-from, CanFire}
+use Rattle.firing.specs.TakingBack.{TakesBack}
+use Rattle.firing.specs.Burning.{Rounds}
+use Rattle.firing.specs.Groups.{Identity}
 use Rattle.firing.specs.Worked.{Comes, Certified, EndFires, TakenBack, Worked}
 use Rattle.firing.proofs.Computed as computed
 

@@ -1,7 +1,7 @@
 -- A list that settles any heights, from distances; and the least list, by legal firings.
-use mathlib.Core.Path.{_≡_, refl, sym, subst, ap, _∙_}
-use mathlib.Core.Logic.{_≢_, _⊎_, inl, inr}
-use mathlib.Core.Bool.{Bool, true, false, cond}
+use mathlib.Core.Path.{_≡_, refl}
+use mathlib.Core.Logic.{inl, inr}
+use mathlib.Core.Bool.{cond}
 use Prim.Native.Nat.{ℕ, zero, suc, _+_, _-_, _*_, _≤_, _<_}
 use native.Mathlib.Omega.{arith}
 use native.Mathlib.Nat.{mul-le-mul-left, mul-le-mul-right}
@@ -18,7 +18,7 @@ use Rattle.firing.proofs.Degrees.{deg-in, deg-fires-from}
 use Rattle.firing.proofs.Choosing.{somewhere}
 use Rattle.firing.proofs.Reach.{Layers, dist, distances, reach-linked}
 use Rattle.firing.proofs.Action as action
-use Rattle.firing.proofs.Runs.{counts-total}
+use Rattle.firing.proofs.Runs.{counts-total, run-same, run-then, run-more}
 
 -- what one layer fires more often than the one before it, j layers from the last: D times what the next one adds, and K
 abbrev pub gap : ℕ → ℕ → ℕ → ℕ
@@ -218,3 +218,20 @@ settled-from b c c′ h same s = (
   },
   λ v l. omega (arith, s .2 v l, same v l),
 )
+
+-- a legal run leads to settled heights
+pub settled-run : (b : Shape) → Sound b → AllReach b → (c h : ℕ → ℕ) → Settled b c h → (w : ℕ → ℕ) × Run b c h w × Still b h
+settled-run b sound all-reach c h s =
+    let e = least-exists b sound all-reach c in
+    let same = action.least-once b c (s .0) (e .0) (s .1) (e .1) in
+    let heights = action.follows-once b c h (s .0) (e .2 .0) (e .0) (s .2) (action.run-follows b sound c (e .2 .1)) same in
+    (e .0, run-same b c h (e .0) (e .2 .1) heights (λ v l. refl), settled-still b c h s)
+
+-- settling in two steps: grains that are added to settled heights might as well have been there from the start
+pub settled-then : (b : Shape) → Sound b → AllReach b → (c d h e : ℕ → ℕ) → Settled b c h → Settled b (λ v. h v + d v) e → Settled b (λ v. c v + d v) e
+settled-then b sound all-reach c d h e one two =
+    let first = settled-run b sound all-reach c h one in
+    let second = settled-run b sound all-reach (λ v. h v + d v) e two in
+    let counts : ℕ → ℕ = λ v. first .0 v + second .0 v in
+    run-settled b sound (reach-linked b all-reach) (λ v. c v + d v) e counts
+    (run-then b (λ v. c v + d v) (run-more b c d (first .1)) (second .1) counts (λ v l. refl)) (second .2)

@@ -1,11 +1,10 @@
 -- There is an identity, and only one.
-use mathlib.Core.Path.{_≡_, refl}
-use Prim.Native.Nat.{ℕ, _+_, _-_, _*_, _≤_, _<_}
+use Prim.Native.Nat.{ℕ, _-_, _*_, _≤_, _<_}
 use native.Mathlib.Omega.{arith}
-use Rattle.board.specs.Shape.{Shape, Sound, deg}
+use Rattle.board.specs.Shape.{Shape, Sound}
 use Rattle.firing.specs.Firing.{fires-from}
 use Rattle.firing.specs.Settling.{Same, Settled}
-use Rattle.firing.specs.Reaching.{AllReach, AllLinked}
+use Rattle.firing.specs.Reaching.{AllReach}
 use Rattle.firing.specs.Groups.{Full, Identity}
 use Rattle.firing.proofs.Degrees.{deg-fires-from}
 use Rattle.firing.proofs.Reach.{reach-linked}

@@ -1,13 +1,13 @@
 -- Distances to the drain.
-use mathlib.Core.Path.{_≡_, refl, sym, subst, ap, _∙_}
+use mathlib.Core.Path.{_≡_, refl, subst, ap}
 use mathlib.Core.Logic.{_⊎_, inl, inr}
 use mathlib.Core.Bool.{Bool, true, false, cond}
-use Prim.Native.Nat.{ℕ, zero, suc, _+_, _*_, _≤_, _<_}
+use Prim.Native.Nat.{ℕ, zero, suc, _+_, _≤_, _<_}
 use native.Mathlib.Omega.{arith}
 use native.Mathlib.Decide.{decLe}
 use lib.Dec.{leb}
-use Rattle.std.proofs.shelf.Tests.{both-ways, leb-true, leb-false, le-leb}
-use Rattle.board.specs.Shape.{Shape, Sound, deg, row-total, sum-below}
+use Rattle.std.proofs.shelf.Tests.{both-ways, leb-true, le-leb}
+use Rattle.board.specs.Shape.{Shape, deg}
 use Rattle.board.proofs.Sums.{sum-term}
 use Rattle.firing.specs.Reaching.{Reaches, out, along, AllReach, AllLinked}
 use Rattle.firing.specs.TakingBack.{links-into}
@@ -89,6 +89,12 @@ module _ (b : Shape) where
         | inl p ↦ out v l p
         | inr f ↦ along v (f .0) l (f .2) (within-reaches k (f .0) (f .1) (f .3))
       ]
+
+  -- a set that has the sites with drain links, and the neighbours of its own, has all that reach the drain
+  pub reach-closed : (F : ℕ → Bool) → ((v : ℕ) → v < b .sites → 1 ≤ b .s v → F v ≡ true)
+      → ((v u : ℕ) → v < b .sites → u < b .sites → 1 ≤ b .m v u → F u ≡ true → F v ≡ true) → {v : ℕ} → Reaches b v → F v ≡ true
+  reach-closed F outer inner (out v l s) = outer v l s
+  reach-closed F outer inner (along v u l m r) = inner v u l (reaches-on r) m (reach-closed F outer inner r)
 
   pub reach-linked : AllReach b → AllLinked b
   reach-linked every v l = go (every v l)

@@ -1,16 +1,16 @@
 -- What burns round by round, and the sets that never do.
 use mathlib.Core.Path.{_≡_, refl, sym, subst, ap, _∙_}
-use mathlib.Core.Logic.{_⊎_, inl, inr, _↔_}
+use mathlib.Core.Logic.{_⊎_, inl, inr}
 use mathlib.Core.Bool.{Bool, true, false, cond, not, _||_}
-use Prim.Native.Nat.{ℕ, zero, suc, _+_, _*_, _≤_, _<_}
+use Prim.Native.Nat.{ℕ, zero, suc, _+_, _≤_, _<_}
 use native.Mathlib.Omega.{arith}
 use native.Mathlib.Decide.{ℕ-discrete, decLe}
 use lib.Dec.{leb, eqb, ltb}
-use Rattle.std.proofs.shelf.Tests.{both-ways, cases-bool, leb-true, leb-false, le-leb, lt-leb, lt-ltb, le-ltb, eq-eqb, ne-eqb, eqb-true, ltb-true, or-left, or-right, or-from, or-cases, or-parts, not-true, not-false, not-from-false, not-from-true}
-use Rattle.board.specs.Shape.{Shape, Sound, deg, sum-below}
+use Rattle.std.proofs.shelf.Tests.{both-ways, cases-bool, leb-true, le-leb, lt-ltb, le-ltb, eq-eqb, ne-eqb, eqb-true, ltb-true, or-left, or-right, or-from, or-cases, not-true, not-false, not-from-false, not-from-true}
+use Rattle.board.specs.Shape.{Shape, deg}
 use Rattle.firing.specs.Firing.{fires-from}
 use Rattle.firing.specs.Settling.{Same}
-use Rattle.firing.specs.TakingBack.{links-into, Lower, AsHigh, TakesBack, Empty}
+use Rattle.firing.specs.TakingBack.{links-into, AsHigh, TakesBack, Empty}
 use Rattle.firing.specs.Burning.{unburnt, Rounds, AllBurn, Stays}
 use Rattle.firing.proofs.Choosing.{first, first-holds, first-least, first-below}
 use Rattle.firing.proofs.Sets.{into-le, into-same}

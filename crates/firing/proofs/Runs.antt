@@ -10,7 +10,7 @@ use lib.Dec.{eqb}
 use Rattle.std.proofs.shelf.Tests.{cond-true, cond-false, eq-eqb, ne-eqb}
 use Rattle.board.specs.Shape.{Shape, Sound, deg, sum-below}
 use Rattle.board.proofs.Sums.{sum-up, sum-plus}
-use Rattle.firing.specs.Firing.{fires-from, CanFire, Fires, Counts, Run, begin, fire}
+use Rattle.firing.specs.Firing.{fires-from, Fires, Counts, Run, begin, fire}
 use Rattle.firing.specs.Settling.{drained, Settles, Same}
 use Rattle.firing.proofs.Sums.{sum-point}
 use Rattle.firing.proofs.Degrees.{deg-is}
@@ -31,6 +31,14 @@ module _ (b : Shape) where
   run-then c {h} {w} r (fire {h = h₁} {h′ = h′} {w = w₁} {w′ = w′} x s f k) w″ e =
       fire x (run-then c r s (λ u. w u + w₁ u) (λ v l. refl)) f
       (record { one-more = omega (arith, e x (f .on), k .one-more); others = λ u l ne. omega (arith, e u l, k .others u l ne) })
+
+  -- with more grains on the sites the same run is legal
+  pub run-more : (c d : ℕ → ℕ) {h w : ℕ → ℕ} → Run b c h w → Run b (λ v. c v + d v) (λ v. h v + d v) w
+  run-more c d (begin at none) = begin (λ v l. omega (arith, at v l)) none
+  run-more c d (fire {h = h} {h′ = h′} x r f k) =
+      fire x (run-more c d r)
+      (record { on = f .on; can = (f .can .0, omega (arith, f .can .1)); gives = omega (arith, f .gives); gets = λ u l ne. omega (arith, f .gets u l ne) })
+      k
 
   -- k firings of v: legal if the last one is
   pub run-many : (c : ℕ → ℕ) (v k : ℕ) → v < b .sites → 1 ≤ deg b v → {h w : ℕ → ℕ} (h′ w′ : ℕ → ℕ) → Run b c h w

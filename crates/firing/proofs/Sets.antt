@@ -1,12 +1,11 @@
 -- Links into a set of sites.
 use mathlib.Core.Path.{_≡_, refl, ap}
 use mathlib.Core.Bool.{Bool, true, false, cond}
-use Prim.Native.Nat.{ℕ, _+_, _≤_, _<_}
+use Prim.Native.Nat.{ℕ, _≤_, _<_}
 use native.Mathlib.Omega.{arith}
-use Rattle.board.specs.Shape.{Shape, Sound, deg, row-total, sum-below}
+use Rattle.board.specs.Shape.{Shape, Sound, row-total, sum-below}
 use Rattle.board.proofs.Sums.{sum-same, sum-up, sum-term}
 use Rattle.firing.specs.TakingBack.{links-into}
-use Rattle.firing.proofs.Degrees.{deg-is}
 
 pub cond-le : (s t : Bool) (m : ℕ) → (s ≡ true → t ≡ true) → cond s m 0 ≤ cond t m 0
 cond-le true t m p = rw (p refl) (omega arith)

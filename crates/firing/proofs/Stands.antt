@@ -1,8 +1,5 @@
 -- The laws of the specs, each under its name there.
-use mathlib.Core.Path.{_≡_}
-use Prim.Native.Nat.{ℕ, _+_, _≤_, _<_}
 use native.Mathlib.Omega.{arith}
-use Rattle.board.specs.Shape.{Shape, Sound, deg}
 use Rattle.firing.specs.Firing.{fires-from}
 use Rattle.firing.specs.Laws.{Run-follows, Conserves, Least-action, Fewer-settle, Run-least, Runs-agree, Min-settles, Least-once, Reach-linked, Settling-exists, Least-exists, Settled-once, Identity-once}
 use Rattle.firing.specs.SetLaws.{Plain-heights, Certificate-law, Union-back, Largest-back, Rounds-once, Burning-law}

@@ -1,22 +1,21 @@
 -- The checks on the definitions.
 use mathlib.Core.Path.{_≡_, refl}
 use mathlib.Core.Logic.{_≢_}
-use mathlib.Core.Bool.{Bool, true, false}
-use mathlib.Core.List.{List, [], _∷_}
-use Prim.Native.Nat.{ℕ, zero, suc, _+_, _*_, _≤_, _<_}
+use mathlib.Core.Bool.{true}
+use mathlib.Core.List.{[], _∷_}
+use Prim.Native.Nat.{ℕ, zero, suc, _+_, _<_}
 use native.Mathlib.Omega.{arith}
 use lib.Dec.{eqb, lit≤, lit<}
 use Rattle.std.proofs.shelf.Tests.{both-ways}
-use Rattle.board.specs.Shape.{Shape, Sound, deg, sum-below}
-use Rattle.board.specs.declared.link.End.the-variants.{Site, Drain}
+use Rattle.board.specs.Shape.{deg, sum-below}
 use Rattle.board.specs.Grids.{grid-of}
 use Rattle.board.specs.Lists.{bare, linked}
-use Rattle.firing.specs.Firing.{at, fires-from, CanFire, Still, Fires, Counts, Run, begin, fire, Lowest}
-use Rattle.firing.specs.Settling.{inflow, drained, Settles, Follows, Least, Settled}
+use Rattle.firing.specs.Firing.{at, fires-from, CanFire, Still, Fires, Run, begin, fire, Lowest}
+use Rattle.firing.specs.Settling.{Settles, Follows, Least, Settled}
 use Rattle.firing.specs.Reaching.{Reaches, out, along, AllReach, AllLinked}
 use Rattle.firing.specs.TakingBack.{TakesBack, Empty, Largest}
-use Rattle.firing.specs.Burning.{Rounds, AllBurn, Recurrent, Stays}
-use Rattle.firing.specs.Groups.{Sum, Full}
+use Rattle.firing.specs.Burning.{Rounds, Recurrent}
+use Rattle.firing.specs.Groups.{Full}
 use Rattle.firing.specs.Checks.{island, pier, shore, Checks}
 use Rattle.firing.proofs.Action as action
 use Rattle.firing.proofs.Exist as exist

@@ -1,8 +1,8 @@
 -- Checks on the definitions: an example for each that would fail if it said something else.
 use mathlib.Core.Path.{_≡_}
-use mathlib.Core.Bool.{Bool, true}
-use mathlib.Core.List.{List, [], _∷_}
-use Prim.Native.Nat.{ℕ, _<_}
+use mathlib.Core.Bool.{true}
+use mathlib.Core.List.{[], _∷_}
+use Prim.Native.Nat.{ℕ}
 use lib.Dec.{eqb}
 use Rattle.board.specs.Shape.{Shape}
 use Rattle.board.specs.declared.link.End.the-variants.{Site, Drain}

@@ -1,6 +1,6 @@
 -- The laws of firing and settling, each over every board.
 use mathlib.Core.Path.{_≡_}
-use Prim.Native.Nat.{ℕ, _+_, _≤_, _<_, min}
+use Prim.Native.Nat.{ℕ, _+_, min}
 use Rattle.board.specs.Shape.{Shape, Sound, sum-below}
 use Rattle.firing.specs.Firing.{Still, Run}
 use Rattle.firing.specs.Settling.{drained, Settles, Follows, AtMost, Same, Least, Settled}

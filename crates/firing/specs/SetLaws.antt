@@ -1,8 +1,7 @@
 -- The laws of sets of sites, what can be taken back and what burns, each over every board.
-use mathlib.Core.Path.{_≡_}
 use mathlib.Core.Bool.{Bool, _||_}
 use mathlib.Core.Logic.{_↔_}
-use Prim.Native.Nat.{ℕ, _+_, _≤_, _<_}
+use Prim.Native.Nat.{ℕ, _≤_, _<_}
 use Rattle.board.specs.Shape.{Shape, Sound}
 use Rattle.firing.specs.Firing.{Still}
 use Rattle.firing.specs.Settling.{Follows, Same, Least}

@@ -1,7 +1,7 @@
 -- Worked results: small grids whose figures are known.
 use mathlib.Core.Path.{_≡_}
 use mathlib.Core.Bool.{Bool, true}
-use mathlib.Core.List.{List, [], _∷_}
+use mathlib.Core.List.{[], _∷_}
 use Prim.Native.Nat.{ℕ}
 use Rattle.board.specs.Shape.{Shape}
 use Rattle.board.specs.Grids.{grid-of}
