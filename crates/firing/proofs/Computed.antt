@@ -11,7 +11,8 @@ use Rattle.firing.specs.Firing.{fires-from, Still}
 use Rattle.firing.specs.Settling.{inflow, drained, Settles, Follows, Least, Settled}
 use Rattle.firing.specs.Reaching.{AllLinked}
 use Rattle.firing.specs.Burning.{Rounds, AllBurn}
-use Rattle.firing.specs.Worked.{Comes, Certified}
+use Rattle.firing.specs.Certificates.{Certified}
+use Rattle.firing.specs.Worked.{Comes}
 use Rattle.firing.proofs.Action.{below-still}
 use Rattle.firing.proofs.Back.{certified}
 use Rattle.firing.proofs.Rounds.{burnt, Marked, marked-rounds, burn-no-back}

@@ -8,11 +8,13 @@ use lib.Dec.{lit≤, lit<}
 use Rattle.board.specs.Shape.{Sound, deg, sum-below}
 use Rattle.board.specs.Grids.{grid-of}
 use Rattle.board.proofs.Grids.{grid-sound}
-use Rattle.firing.specs.Firing.{at, fires-from, CanFire}
+use Rattle.firing.specs.Firing.{at, fires-from, CanFire, Still}
+use Rattle.firing.specs.Settling.{Follows}
 use Rattle.firing.specs.TakingBack.{TakesBack}
 use Rattle.firing.specs.Burning.{Rounds}
 use Rattle.firing.specs.Groups.{Identity}
-use Rattle.firing.specs.Worked.{Comes, Certified, EndFires, TakenBack, Worked}
+use Rattle.firing.specs.Certificates.{Certified, EndFiresAt, TakenBackAt}
+use Rattle.firing.specs.Worked.{Comes, Worked}
 use Rattle.firing.proofs.Computed as computed
 
 pub sound-one : Sound (grid-of 1 1)
@@ -40,13 +42,12 @@ pair-certified : Certified (grid-of 1 2) (at (4 ∷ 3 ∷ [])) (at (1 ∷ 1 ∷ 
 unfolding grid-of deg sum-below fires-from
 pair-certified = computed.certificate (grid-of 1 2) sound-pair refl (at (4 ∷ 3 ∷ [])) (at (1 ∷ 1 ∷ [])) (at (1 ∷ 0 ∷ [])) (at (1 ∷ 2 ∷ [])) refl refl refl refl
 
-pair-fires : EndFires (grid-of 1 2) (at (4 ∷ 3 ∷ [])) (at (1 ∷ 0 ∷ [])) (at (0 ∷ 4 ∷ [])) 1
+pair-fires : Follows (grid-of 1 2) (at (4 ∷ 3 ∷ [])) (at (1 ∷ 0 ∷ [])) (at (0 ∷ 4 ∷ [])) × EndFiresAt (grid-of 1 2) (at (0 ∷ 4 ∷ [])) 1
 unfolding grid-of deg sum-below fires-from
-pair-fires =
-    record {
-      follows = computed.follows (grid-of 1 2) (at (4 ∷ 3 ∷ [])) (at (1 ∷ 0 ∷ [])) (at (0 ∷ 4 ∷ [])) refl;
-      lowest = record { on = lit< tt; holds = (lit≤ tt, lit≤ tt); before = before };
-    }
+pair-fires = (
+  computed.follows (grid-of 1 2) (at (4 ∷ 3 ∷ [])) (at (1 ∷ 0 ∷ [])) (at (0 ∷ 4 ∷ [])) refl,
+  record { on = lit< tt; holds = (lit≤ tt, lit≤ tt); before = before },
+)
   where
     before : (u : ℕ) → u < 1 → CanFire (grid-of 1 2) (at (0 ∷ 4 ∷ [])) u → ⊥
     before zero l p = omega (arith, p .1)
@@ -59,16 +60,13 @@ both-back zero l e = (lit≤ tt, lit< tt)
 both-back (suc zero) l e = (lit≤ tt, lit< tt)
 both-back (suc (suc v)) l e = absurd (omega arith)
 
-pair-back : TakenBack (grid-of 1 2) (at (3 ∷ 3 ∷ [])) (at (1 ∷ 1 ∷ [])) (at (0 ∷ 0 ∷ [])) 0
+pair-back : Follows (grid-of 1 2) (at (3 ∷ 3 ∷ [])) (at (1 ∷ 1 ∷ [])) (at (0 ∷ 0 ∷ [])) × Still (grid-of 1 2) (at (0 ∷ 0 ∷ [])) × TakenBackAt (grid-of 1 2) (at (1 ∷ 1 ∷ [])) (at (0 ∷ 0 ∷ [])) 0
 unfolding grid-of deg sum-below fires-from
-pair-back =
-    record {
-      follows = computed.follows (grid-of 1 2) (at (3 ∷ 3 ∷ [])) (at (1 ∷ 1 ∷ [])) (at (0 ∷ 0 ∷ [])) refl;
-      still = computed.still (grid-of 1 2) (at (0 ∷ 0 ∷ [])) refl;
-      set = λ v. true;
-      largest = record { back = both-back; holds = λ S takes v l e. refl };
-      lowest = record { on = lit< tt; holds = refl; before = λ u l p. omega arith };
-    }
+pair-back = (
+  computed.follows (grid-of 1 2) (at (3 ∷ 3 ∷ [])) (at (1 ∷ 1 ∷ [])) (at (0 ∷ 0 ∷ [])) refl,
+  computed.still (grid-of 1 2) (at (0 ∷ 0 ∷ [])) refl,
+  (λ v. true, record { back = both-back; holds = λ S takes v l e. refl }, record { on = lit< tt; holds = refl; before = λ u l p. omega arith }),
+)
 
 pub burns : Rounds (grid-of 1 2) (at (1 ∷ 0 ∷ [])) (at (1 ∷ 2 ∷ []))
 unfolding grid-of deg sum-below fires-from

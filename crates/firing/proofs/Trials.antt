@@ -11,9 +11,10 @@ use Rattle.board.specs.Shape.{deg, sum-below}
 use Rattle.board.specs.Grids.{grid-of}
 use Rattle.board.specs.Lists.{bare, linked}
 use Rattle.firing.specs.Firing.{at, fires-from, CanFire, Still, Fires, Run, begin, fire, Lowest}
-use Rattle.firing.specs.Settling.{Settles, Follows, Least, Settled}
+use Rattle.firing.specs.Settling.{Settles, FollowsAt, Follows, Least, Settled}
 use Rattle.firing.specs.Reaching.{Reaches, out, along, AllReach, AllLinked}
 use Rattle.firing.specs.TakingBack.{TakesBack, Empty, Largest}
+use Rattle.firing.specs.Certificates.{NotFollowingAt, TakenBackAt}
 use Rattle.firing.specs.Burning.{Rounds, Recurrent}
 use Rattle.firing.specs.Groups.{Full}
 use Rattle.firing.specs.Checks.{island, pier, shore, Checks}
@@ -111,6 +112,14 @@ no-end : (h : ℕ → ℕ) → Follows (grid-of 1 2) (at (0 ∷ 0 ∷ [])) (at (
 unfolding grid-of deg sum-below
 no-end h follows = omega (arith, follows 1 (lit< tt))
 
+not-following : NotFollowingAt (grid-of 1 2) (at (0 ∷ 0 ∷ [])) (at (0 ∷ 5 ∷ [])) (at (5 ∷ 0 ∷ [])) 1
+unfolding grid-of deg sum-below
+not-following = record { on = lit< tt; holds = λ e. omega arith; before = before }
+  where
+    before : (u : ℕ) → u < 1 → (FollowsAt (grid-of 1 2) (at (0 ∷ 0 ∷ [])) (at (0 ∷ 5 ∷ [])) (at (5 ∷ 0 ∷ [])) u → ⊥) → ⊥
+    before zero l p = p refl
+    before (suc u) l p = omega arith
+
 settled : Settled (grid-of 1 2) (at (3 ∷ 3 ∷ [])) (at (3 ∷ 3 ∷ []))
 unfolding grid-of deg sum-below fires-from
 settled = computed.settled (grid-of 1 2) examples.sound-pair refl (at (3 ∷ 3 ∷ [])) (at (0 ∷ 0 ∷ [])) (at (3 ∷ 3 ∷ [])) (at (1 ∷ 1 ∷ [])) refl refl refl refl
@@ -173,6 +182,9 @@ back-alone back = omega (arith, back 0 (lit< tt) refl .1)
 not-largest : Largest (grid-of 1 2) (at (1 ∷ 1 ∷ [])) (at (0 ∷ 0 ∷ [])) (λ v. eqb v 9) → ⊥
 not-largest l = both-ways (eqb 0 9) refl (l .holds (λ v. true) examples.both-back 0 on-pair refl)
 
+not-lowest-back : TakenBackAt (grid-of 1 2) (at (1 ∷ 1 ∷ [])) (at (0 ∷ 0 ∷ [])) 1 → ⊥
+not-lowest-back p = p .2 .before 0 (lit< tt) (p .1 .holds (λ v. true) examples.both-back 0 on-pair refl)
+
 not-at-once : Rounds (grid-of 1 2) (at (1 ∷ 0 ∷ [])) (at (1 ∷ 1 ∷ [])) → ⊥
 unfolding grid-of
 not-at-once r = omega (arith, burning.rounds-once (grid-of 1 2) (at (1 ∷ 0 ∷ [])) (at (1 ∷ 1 ∷ [])) (at (1 ∷ 2 ∷ [])) r examples.burns 1 (lit< tt))
@@ -209,6 +221,7 @@ checks =
       below-zero = computed.settles (grid-of 1 2) (at (0 ∷ 0 ∷ [])) (at (1 ∷ 5 ∷ [])) refl;
       unsettled = λ s. omega (arith, s 0 (lit< tt));
       no-end = no-end;
+      not-following = not-following;
       least = settled-least;
       not-least = (
         computed.settles (grid-of 1 2) (at (3 ∷ 3 ∷ [])) (at (1 ∷ 1 ∷ [])) refl,
@@ -225,6 +238,7 @@ checks =
       back-alone = back-alone;
       empty = empty;
       not-largest = not-largest;
+      not-lowest-back = not-lowest-back;
       not-at-once = not-at-once;
       recurrent = recurrent;
       not-recurrent = not-recurrent;

@@ -11,6 +11,7 @@ use Rattle.board.specs.Lists.{bare, linked}
 use Rattle.firing.specs.Firing.{at, CanFire, Still, Fires, Run, Lowest}
 use Rattle.firing.specs.Settling.{inflow, drained, Settles, Follows, Least, Settled}
 use Rattle.firing.specs.Reaching.{Reaches, AllReach, AllLinked}
+use Rattle.firing.specs.Certificates.{NotFollowingAt, TakenBackAt}
 use Rattle.firing.specs.TakingBack.{TakesBack, Empty, Largest}
 use Rattle.firing.specs.Burning.{Rounds, AllBurn, Recurrent, Stays}
 use Rattle.firing.specs.Groups.{Sum, Full}
@@ -51,6 +52,7 @@ pub record Checks : Type 0 where
   pub unsettled : Settles (grid-of 1 2) (at (4 ∷ 3 ∷ [])) (at (0 ∷ 0 ∷ [])) → ⊥
   -- no heights follow there, since none is less than 0
   pub no-end : (h : ℕ → ℕ) → Follows (grid-of 1 2) (at (0 ∷ 0 ∷ [])) (at (1 ∷ 5 ∷ [])) h → ⊥
+  pub not-following : NotFollowingAt (grid-of 1 2) (at (0 ∷ 0 ∷ [])) (at (0 ∷ 5 ∷ [])) (at (5 ∷ 0 ∷ [])) 1
   -- of two lists that settle the least is the smaller
   pub least : Least (grid-of 1 2) (at (3 ∷ 3 ∷ [])) (at (0 ∷ 0 ∷ []))
   pub not-least : Settles (grid-of 1 2) (at (3 ∷ 3 ∷ [])) (at (1 ∷ 1 ∷ [])) × (Least (grid-of 1 2) (at (3 ∷ 3 ∷ [])) (at (1 ∷ 1 ∷ [])) → ⊥)
@@ -70,6 +72,7 @@ pub record Checks : Type 0 where
   pub empty : Empty (grid-of 1 2) (λ v. eqb v 9) × (Empty (grid-of 1 2) (λ v. eqb v 1) → ⊥)
   -- a largest set is none of the smaller ones
   pub not-largest : Largest (grid-of 1 2) (at (1 ∷ 1 ∷ [])) (at (0 ∷ 0 ∷ [])) (λ v. eqb v 9) → ⊥
+  pub not-lowest-back : TakenBackAt (grid-of 1 2) (at (1 ∷ 1 ∷ [])) (at (0 ∷ 0 ∷ [])) 1 → ⊥
   -- what burns in a round helps others only in the next, and burns once
   pub not-at-once : Rounds (grid-of 1 2) (at (1 ∷ 0 ∷ [])) (at (1 ∷ 1 ∷ [])) → ⊥
   -- recurrent heights burn, and are still

@@ -2,6 +2,7 @@ pub mod Firing
 pub mod Settling
 pub mod Reaching
 pub mod TakingBack
+pub mod Certificates
 pub mod Burning
 pub mod Groups
 pub mod Laws

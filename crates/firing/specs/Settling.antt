@@ -16,9 +16,13 @@ drained b w = sum-below (b .sites) (λ v. b .s v * w v)
 abbrev pub Settles : Shape → (ℕ → ℕ) → (ℕ → ℕ) → Type 0
 Settles b c w = (v : ℕ) → v < b .sites → c v + inflow b w v < fires-from b v + deg b v * w v
 
+-- at v the height h v follows from c by the counts w
+abbrev pub FollowsAt : Shape → (ℕ → ℕ) → (ℕ → ℕ) → (ℕ → ℕ) → ℕ → Type 0
+FollowsAt b c w h v = h v + deg b v * w v ≡ c v + inflow b w v
+
 -- the heights h follow from c by the counts w
 abbrev pub Follows : Shape → (ℕ → ℕ) → (ℕ → ℕ) → (ℕ → ℕ) → Type 0
-Follows b c w h = (v : ℕ) → v < b .sites → h v + deg b v * w v ≡ c v + inflow b w v
+Follows b c w h = (v : ℕ) → v < b .sites → FollowsAt b c w h v
 
 -- w is at most w′ at each site
 abbrev pub AtMost : Shape → (ℕ → ℕ) → (ℕ → ℕ) → Type 0
