@@ -14,8 +14,8 @@ use Rattle.firing.specs.Firing.{at, fires-from, CanFire, Still, Fires, Run, be
 use Rattle.firing.specs.Settling.{Settles, FollowsAt, Follows, Least, Settled}
 use Rattle.firing.specs.Reaching.{Reaches, out, along, AllReach, AllLinked}
 use Rattle.firing.specs.TakingBack.{TakesBack, Empty, Largest}
-use Rattle.firing.specs.Certificates.{NotFollowingAt, TakenBackAt}
-use Rattle.firing.specs.Burning.{Rounds, Recurrent}
+use Rattle.firing.specs.Certificates.{Certified, NotFollowingAt, TakenBackAt}
+use Rattle.firing.specs.Burning.{Rounds, Recurrent, Stays}
 use Rattle.firing.specs.Groups.{Full}
 use Rattle.firing.specs.Checks.{island, pier, shore, Checks}
 use Rattle.firing.proofs.Action as action
@@ -144,9 +144,9 @@ all-reach zero l = by-chain
 all-reach (suc zero) l = out 1 (lit< tt) (lit≤ tt)
 all-reach (suc (suc v)) l = absurd (omega arith)
 
-linked-only : AllReach pier × AllLinked island × (AllReach island → ⊥)
+linked-only : AllReach pier × AllLinked island × (AllReach island → ⊥) × (AllLinked shore → ⊥)
 unfolding linked deg sum-below
-linked-only = (all-reach, computed.linked island refl, λ reaches. no-chain .0 (reaches 0 (lit< tt)))
+linked-only = (all-reach, computed.linked island refl, λ reaches. no-chain .0 (reaches 0 (lit< tt)), λ all. omega (arith, all 0 (lit< tt)))
 
 back-links : TakesBack pier (at (1 ∷ 1 ∷ [])) (at (1 ∷ 1 ∷ [])) (λ v. true)
 unfolding linked deg sum-below fires-from
@@ -181,6 +181,21 @@ back-alone back = omega (arith, back 0 (lit< tt) refl .1)
 
 not-largest : Largest (grid-of 1 2) (at (1 ∷ 1 ∷ [])) (at (0 ∷ 0 ∷ [])) (λ v. eqb v 9) → ⊥
 not-largest l = both-ways (eqb 0 9) refl (l .holds (λ v. true) examples.both-back 0 on-pair refl)
+
+least-settles : Least (grid-of 1 2) (at (4 ∷ 3 ∷ [])) (at (0 ∷ 0 ∷ [])) → ⊥
+unfolding grid-of deg sum-below fires-from
+least-settles l = omega (arith, l .settles 0 (lit< tt))
+
+not-follows : Certified (grid-of 1 2) (at (0 ∷ 0 ∷ [])) (at (0 ∷ 0 ∷ [])) (at (1 ∷ 0 ∷ [])) → ⊥
+unfolding grid-of deg sum-below
+not-follows p = omega (arith, p .follows 0 (lit< tt))
+
+not-certified : Certified (grid-of 1 2) (at (3 ∷ 3 ∷ [])) (at (1 ∷ 1 ∷ [])) (at (0 ∷ 0 ∷ [])) → ⊥
+not-certified p = both-ways true (p .none-back (λ v. true) examples.both-back 0 on-pair) refl
+
+not-stays : Stays (grid-of 1 2) (at (1 ∷ 0 ∷ [])) (λ v. true) → ⊥
+unfolding grid-of deg sum-below fires-from
+not-stays stays = omega (arith, stays 0 (lit< tt) refl)
 
 not-lowest-back : TakenBackAt (grid-of 1 2) (at (1 ∷ 1 ∷ [])) (at (0 ∷ 0 ∷ [])) 1 → ⊥
 not-lowest-back p = p .2 .before 0 (lit< tt) (p .1 .holds (λ v. true) examples.both-back 0 on-pair refl)
@@ -222,6 +237,7 @@ checks =
       unsettled = λ s. omega (arith, s 0 (lit< tt));
       no-end = no-end;
       not-following = not-following;
+      least-settles = least-settles;
       least = settled-least;
       not-least = (
         computed.settles (grid-of 1 2) (at (3 ∷ 3 ∷ [])) (at (1 ∷ 1 ∷ [])) refl,
@@ -237,13 +253,17 @@ checks =
       back-links = back-links;
       back-alone = back-alone;
       empty = empty;
+      largest-back = λ l. back-high (l .back);
       not-largest = not-largest;
       not-lowest-back = not-lowest-back;
+      not-follows = not-follows;
+      not-at-rest = λ p. not-still (p .still);
+      not-certified = not-certified;
       not-at-once = not-at-once;
       recurrent = recurrent;
       not-recurrent = not-recurrent;
       burns-unstill = (computed.burn (grid-of 1 2) (at (4 ∷ 0 ∷ [])) (at (1 ∷ 2 ∷ [])) refl refl, unstill);
-      stays = λ v l e. examples.both-back v l e .1;
+      stays = (λ v l e. examples.both-back v l e .1, not-stays);
       sum = computed.settled (grid-of 1 2) examples.sound-pair refl (λ v. at (1 ∷ 0 ∷ []) v + at (3 ∷ 3 ∷ []) v) (at (1 ∷ 1 ∷ [])) (at (1 ∷ 0 ∷ [])) (at (1 ∷ 2 ∷ [])) refl refl refl refl;
       full = full;
     }

@@ -11,7 +11,7 @@ use Rattle.board.specs.Lists.{bare, linked}
 use Rattle.firing.specs.Firing.{at, CanFire, Still, Fires, Run, Lowest}
 use Rattle.firing.specs.Settling.{inflow, drained, Settles, Follows, Least, Settled}
 use Rattle.firing.specs.Reaching.{Reaches, AllReach, AllLinked}
-use Rattle.firing.specs.Certificates.{NotFollowingAt, TakenBackAt}
+use Rattle.firing.specs.Certificates.{Certified, NotFollowingAt, TakenBackAt}
 use Rattle.firing.specs.TakingBack.{TakesBack, Empty, Largest}
 use Rattle.firing.specs.Burning.{Rounds, AllBurn, Recurrent, Stays}
 use Rattle.firing.specs.Groups.{Sum, Full}
@@ -53,7 +53,8 @@ pub record Checks : Type 0 where
   -- no heights follow there, since none is less than 0
   pub no-end : (h : ℕ → ℕ) → Follows (grid-of 1 2) (at (0 ∷ 0 ∷ [])) (at (1 ∷ 5 ∷ [])) h → ⊥
   pub not-following : NotFollowingAt (grid-of 1 2) (at (0 ∷ 0 ∷ [])) (at (0 ∷ 5 ∷ [])) (at (5 ∷ 0 ∷ [])) 1
-  -- of two lists that settle the least is the smaller
+  -- a least list settles, and of two lists that settle it is the smaller
+  pub least-settles : Least (grid-of 1 2) (at (4 ∷ 3 ∷ [])) (at (0 ∷ 0 ∷ [])) → ⊥
   pub least : Least (grid-of 1 2) (at (3 ∷ 3 ∷ [])) (at (0 ∷ 0 ∷ []))
   pub not-least : Settles (grid-of 1 2) (at (3 ∷ 3 ∷ [])) (at (1 ∷ 1 ∷ [])) × (Least (grid-of 1 2) (at (3 ∷ 3 ∷ [])) (at (1 ∷ 1 ∷ [])) → ⊥)
   -- so that still heights are settled already, and stay as they are
@@ -61,7 +62,7 @@ pub record Checks : Type 0 where
   -- a chain of links leads to the drain, or there is none
   pub by-chain : Reaches pier 0
   pub no-chain : (Reaches island 0 → ⊥) × (Reaches shore 0 → ⊥)
-  pub linked-only : AllReach pier × AllLinked island × (AllReach island → ⊥)
+  pub linked-only : AllReach pier × AllLinked island × (AllReach island → ⊥) × (AllLinked shore → ⊥)
   -- only what has fired is taken back, only where it is lower than its links, and only links into the set count
   pub back : TakesBack (grid-of 1 2) (at (1 ∷ 1 ∷ [])) (at (0 ∷ 0 ∷ [])) (λ v. true)
   pub back-unfired : TakesBack (grid-of 1 2) (at (1 ∷ 0 ∷ [])) (at (0 ∷ 0 ∷ [])) (λ v. true) → ⊥
@@ -70,16 +71,21 @@ pub record Checks : Type 0 where
   pub back-alone : TakesBack (grid-of 1 2) (at (1 ∷ 1 ∷ [])) (at (0 ∷ 0 ∷ [])) (λ v. eqb v 0) → ⊥
   -- a set is empty where it has no site of the board
   pub empty : Empty (grid-of 1 2) (λ v. eqb v 9) × (Empty (grid-of 1 2) (λ v. eqb v 1) → ⊥)
-  -- a largest set is none of the smaller ones
+  -- a largest set can be taken back, and is none of the smaller ones
+  pub largest-back : Largest (grid-of 1 2) (at (1 ∷ 1 ∷ [])) (at (1 ∷ 0 ∷ [])) (λ v. true) → ⊥
   pub not-largest : Largest (grid-of 1 2) (at (1 ∷ 1 ∷ [])) (at (0 ∷ 0 ∷ [])) (λ v. eqb v 9) → ⊥
   pub not-lowest-back : TakenBackAt (grid-of 1 2) (at (1 ∷ 1 ∷ [])) (at (0 ∷ 0 ∷ [])) 1 → ⊥
+  -- a certificate's end follows, is still, and leaves nothing to take back
+  pub not-follows : Certified (grid-of 1 2) (at (0 ∷ 0 ∷ [])) (at (0 ∷ 0 ∷ [])) (at (1 ∷ 0 ∷ [])) → ⊥
+  pub not-at-rest : Certified (grid-of 1 2) (at (4 ∷ 3 ∷ [])) (at (1 ∷ 0 ∷ [])) (at (0 ∷ 4 ∷ [])) → ⊥
+  pub not-certified : Certified (grid-of 1 2) (at (3 ∷ 3 ∷ [])) (at (1 ∷ 1 ∷ [])) (at (0 ∷ 0 ∷ [])) → ⊥
   -- what burns in a round helps others only in the next, and burns once
   pub not-at-once : Rounds (grid-of 1 2) (at (1 ∷ 0 ∷ [])) (at (1 ∷ 1 ∷ [])) → ⊥
   -- recurrent heights burn, and are still
   pub recurrent : Recurrent (grid-of 1 2) (at (1 ∷ 0 ∷ []))
   pub not-recurrent : Recurrent (grid-of 1 2) (at (0 ∷ 0 ∷ [])) → ⊥
   pub burns-unstill : AllBurn (grid-of 1 2) (at (4 ∷ 0 ∷ [])) × (Recurrent (grid-of 1 2) (at (4 ∷ 0 ∷ [])) → ⊥)
-  pub stays : Stays (grid-of 1 2) (at (0 ∷ 0 ∷ [])) (λ v. true)
+  pub stays : Stays (grid-of 1 2) (at (0 ∷ 0 ∷ [])) (λ v. true) × (Stays (grid-of 1 2) (at (1 ∷ 0 ∷ [])) (λ v. true) → ⊥)
   -- the identity of the pair, added, changes nothing; M is one below each degree
   pub sum : Sum (grid-of 1 2) (at (1 ∷ 0 ∷ [])) (at (3 ∷ 3 ∷ [])) (at (1 ∷ 0 ∷ []))
   pub full : Full pier (at (1 ∷ 2 ∷ []))
