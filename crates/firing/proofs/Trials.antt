@@ -197,8 +197,17 @@ not-stays : Stays (grid-of 1 2) (at (1 ∷ 0 ∷ [])) (λ v. true) → ⊥
 unfolding grid-of deg sum-below fires-from
 not-stays stays = omega (arith, stays 0 (lit< tt) refl)
 
-not-lowest-back : TakenBackAt (grid-of 1 2) (at (1 ∷ 1 ∷ [])) (at (0 ∷ 0 ∷ [])) 1 → ⊥
-not-lowest-back p = p .2 .before 0 (lit< tt) (p .1 .holds (λ v. true) examples.both-back 0 on-pair refl)
+four-back : TakesBack (grid-of 1 4) (at (1 ∷ 1 ∷ 1 ∷ 1 ∷ [])) (at (0 ∷ 0 ∷ 0 ∷ 0 ∷ [])) (λ v. true)
+unfolding grid-of deg sum-below fires-from
+four-back zero l e = (lit≤ tt, lit< tt)
+four-back (suc zero) l e = (lit≤ tt, lit< tt)
+four-back (suc (suc zero)) l e = (lit≤ tt, lit< tt)
+four-back (suc (suc (suc zero))) l e = (lit≤ tt, lit< tt)
+four-back (suc (suc (suc (suc v)))) l e = absurd (omega arith)
+
+not-lowest-back : TakenBackAt (grid-of 1 4) (at (1 ∷ 1 ∷ 1 ∷ 1 ∷ [])) (at (0 ∷ 0 ∷ 0 ∷ 0 ∷ [])) 2 → ⊥
+unfolding grid-of
+not-lowest-back p = p .2 .before 0 (lit< tt) (p .1 .holds (λ v. true) four-back 0 (lit< tt) refl)
 
 not-at-once : Rounds (grid-of 1 2) (at (1 ∷ 0 ∷ [])) (at (1 ∷ 1 ∷ [])) → ⊥
 unfolding grid-of

@@ -74,7 +74,8 @@ pub record Checks : Type 0 where
   -- a largest set can be taken back, and is none of the smaller ones
   pub largest-back : Largest (grid-of 1 2) (at (1 ∷ 1 ∷ [])) (at (1 ∷ 0 ∷ [])) (λ v. true) → ⊥
   pub not-largest : Largest (grid-of 1 2) (at (1 ∷ 1 ∷ [])) (at (0 ∷ 0 ∷ [])) (λ v. eqb v 9) → ⊥
-  pub not-lowest-back : TakenBackAt (grid-of 1 2) (at (1 ∷ 1 ∷ [])) (at (0 ∷ 0 ∷ [])) 1 → ⊥
+  -- the place is in the largest set: on 1×4 the sites 2 and 3 alone can be taken back too
+  pub not-lowest-back : TakenBackAt (grid-of 1 4) (at (1 ∷ 1 ∷ 1 ∷ 1 ∷ [])) (at (0 ∷ 0 ∷ 0 ∷ 0 ∷ [])) 2 → ⊥
   -- a certificate's end follows, is still, and leaves nothing to take back
   pub not-follows : Certified (grid-of 1 2) (at (0 ∷ 0 ∷ [])) (at (0 ∷ 0 ∷ [])) (at (1 ∷ 0 ∷ [])) → ⊥
   pub not-at-rest : Certified (grid-of 1 2) (at (4 ∷ 3 ∷ [])) (at (1 ∷ 0 ∷ [])) (at (0 ∷ 4 ∷ [])) → ⊥
