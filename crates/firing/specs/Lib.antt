@@ -1,0 +1,11 @@
+pub mod Firing
+pub mod Settling
+pub mod Reaching
+pub mod TakingBack
+pub mod Certificates
+pub mod Burning
+pub mod Groups
+pub mod Laws
+pub mod SetLaws
+pub mod Worked
+pub mod Checks
