@@ -1,0 +1,4 @@
+pub mod Uplifts
+pub mod Earthed
+pub mod Merged
+pub mod Cutting

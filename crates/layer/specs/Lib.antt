@@ -1,0 +1,4 @@
+pub mod Layers
+pub mod Earths
+pub mod Merges
+pub mod Cuts
