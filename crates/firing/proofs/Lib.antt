@@ -1,0 +1,15 @@
+pub mod Sums
+pub mod Degrees
+pub mod Action
+pub mod Choosing
+pub mod Sets
+pub mod Back
+pub mod Growing
+pub mod Reach
+pub mod Exist
+pub mod Rounds
+pub mod Group
+pub mod Stands
+pub mod Computed
+pub mod Examples
+pub mod Trials

@@ -1,0 +1,5 @@
+use Rattle.firing.proofs.Stands as stands
+use Rattle.firing.proofs.laws.settled_once.Needs as need
+
+pub returns : need.returns
+returns c = stands.settled-once
