@@ -1,0 +1,4 @@
+// Settling: the waiting list, firing, reach and settling, over any board and lent memory.
+mod waiting;
+
+pub use waiting::WaitingList;
