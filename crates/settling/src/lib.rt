@@ -1,4 +1,5 @@
 // Settling: the waiting list, firing, reach and settling, over any board and lent memory.
+pub mod fire;
 mod waiting;
 
 pub use waiting::WaitingList;
