@@ -15,7 +15,7 @@ use refusal::Refusal;
 use refusal::Row;
 
 // Whether a site of this degree and height can fire.
-fn is_enough(links: u64, height: u64) -> bool
+pub(crate) fn is_enough(links: u64, height: u64) -> bool
     ensures { λ r. ⌜ When r (Enough links height) (Enough links height → ⊥) ⌝ }
 {
     links >= 1 && height >= links
