@@ -1,0 +1,6 @@
+pub mod Circles
+pub mod Spread
+pub mod Ready
+pub mod Marking
+pub mod Visits
+pub mod Going

@@ -1,0 +1,5 @@
+pub mod Slots
+pub mod WaitingLists
+pub mod Firings
+pub mod Marks
+pub mod Settlings
