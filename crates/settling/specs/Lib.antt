@@ -1,2 +1,4 @@
 pub mod Slots
 pub mod WaitingLists
+pub mod Searches
+pub mod Reaching
