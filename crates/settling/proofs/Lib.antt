@@ -4,3 +4,5 @@ pub mod Ready
 pub mod Marking
 pub mod Visits
 pub mod Going
+pub mod Queues
+pub mod Searching

@@ -3,3 +3,5 @@ pub mod WaitingLists
 pub mod Firings
 pub mod Marks
 pub mod Settlings
+pub mod Searches
+pub mod Reaching
