@@ -4,7 +4,7 @@ ghost use Prim.Native.Nat.{ℕ, _≤_};
 ghost use Rattle.board.specs.Links.{between, to-drain, far, alike, weight, Fitting};
 
 // Where links of a site lead: to another site, or to the drain.
-#[derive(Clone, Copy)]
+#[derive(Clone, Copy, PartialEq, Eq, Debug)]
 pub enum End {
     Site(usize),
     Drain,

@@ -23,10 +23,10 @@ fn main(rt: LibcRuntime) -> Result<(), AnyError> {
 
 #[cfg(test)]
 mod tests {
+    use board::End;
     use refusal::Part;
     use refusal::Refusal;
     use refusal::Row;
-    use sheet::End;
     use sheet::Line;
     use sheet::LineDebug;
     use sheet::LinePartialEq;

@@ -14,8 +14,8 @@ use Rattle.refusal.specs.Table.{Passed, First, Refused}
 use Rattle.refusal.proofs.Answers.{not-both, one-answer, Single}
 use Rattle.sheet.specs.declared.Kind.{Kind}
 use Rattle.sheet.specs.declared.Kind.the-variants.{Grid, Sites, Link, Earth, Merge, Cut, Height, Ceiling, Drop, Fire, Run, Wave, Close, Shelve, Resume}
-use Rattle.sheet.specs.declared.End.{End}
-use Rattle.sheet.specs.declared.End.the-variants.{Site, Drain}
+use Rattle.board.specs.declared.link.End.{End}
+use Rattle.board.specs.declared.link.End.the-variants.{Site, Drain}
 use Rattle.sheet.specs.declared.Line.{Line}
 use Rattle.sheet.specs.declared.Line.the-variants as line
 use Rattle.sheet.specs.declared.LineRefusal.{LineRefusal}

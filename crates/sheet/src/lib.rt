@@ -9,6 +9,10 @@ mod reader;
 mod refused;
 mod words;
 
+use board::End;
+use board::link::EndDebug;
+use board::link::EndEq;
+use board::link::EndPartialEq;
 pub use form::check_form;
 pub use form::form_is_decided;
 pub use form::read_sheet;
@@ -36,13 +40,6 @@ pub enum Kind {
     Close,
     Shelve,
     Resume,
-}
-
-// The far end of a link: a site or the drain.
-#[derive(Clone, Copy, PartialEq, Eq, Debug)]
-pub enum End {
-    Site(u64),
-    Drain,
 }
 
 // What a line says.

@@ -10,9 +10,9 @@ ghost use Rattle.sheet.specs.Reading.{Short};
 ghost use Rattle.sheet.specs.Letters.{far, amount, end-value};
 ghost use Rattle.sheet.specs.Letters.{number as a-number};
 ghost use Rattle.sheet.specs.Reading.{Took, Fails, WordsRead};
-use super::End;
 use super::reader::Reader;
 use super::reader::Word;
+use board::End;
 
 // A number's value; none where the word is not 1 to 13 digits or has a leading 0.
 fn decimal(word: &[u8]) -> Option<u64>
@@ -64,7 +64,7 @@ impl Reader<'_> {
     {
         match self.word()? {
             Word::Number(part, place) => match decimal(part) {
-                Some(n) => Ok(End::Site(n)),
+                Some(n) => Ok(End::Site(n as usize)),
                 None => Err(place.column),
             },
             Word::Drain(part, place) => {
