@@ -1,0 +1,3 @@
+pub mod Kindling
+pub mod Visits
+pub mod Ends

@@ -1,0 +1,9 @@
+-- The loop of `light`: the sites below u have been held against their heights.
+use mathlib.Core.Path.{_≡_}
+use Rattle.settling.specs.WaitingLists.{waits, room}
+use Rattle.group.specs.Flames.{at, Lighting}
+use Rattle.group.proofs.burning.rounds.light.Given as given
+
+abbrev pub Inv-loop-u : given.InvT-loop-u
+Inv-loop-u g l =
+    Lighting (g .B·Board .shape (l .board)) (at (l .heights)) (l .u) (waits (l .list)) (l .bytes) (l .rounds) × (room (l .list) ≡ room (l .entry .list))

@@ -1,0 +1,2 @@
+pub mod Flames
+pub mod Answers

@@ -1,0 +1,3 @@
+// The group: burning over any board and lent memory; sums and the identity come next.
+pub mod burning;
+mod refusals;
