@@ -18,7 +18,8 @@ use Rattle.firing.proofs.Stands.{plain-heights}
 use Rattle.settling.specs.Searches.{mark, occurs, Queued}
 use Rattle.settling.specs.Reaching.{Says}
 use Rattle.group.specs.declared.burning.Burnt.{Burnt}
-use Rattle.group.specs.Flames.{at, site-of, undone, Right, Burning, Cool, Steady, Cleared, Ended}
+use Rattle.firing.specs.Firing.{at}
+use Rattle.group.specs.Flames.{site-of, undone, Right, Burning, Cool, Steady, Cleared, Ended}
 use Rattle.group.proofs.Kindling.{unburnt-same}
 
 module _ (b : Shape) (ok : Sound b) (h : ℕ → ℕ) where

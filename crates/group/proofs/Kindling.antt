@@ -18,7 +18,8 @@ use Rattle.firing.proofs.Rounds.{unburnt-never, unburnt-later, unburnt-by}
 use Rattle.settling.specs.Searches.{mark, occurs, Queued}
 use Rattle.settling.proofs.Queues.{hit, miss, mark-here, mark-there, queued-push, queued-pop, popped-on}
 use Rattle.group.specs.declared.burning.Burnt.{Burnt}
-use Rattle.group.specs.Flames.{at, site-of, Noted, Late, Turns, undone, Right, Burning}
+use Rattle.firing.specs.Firing.{at}
+use Rattle.group.specs.Flames.{site-of, Noted, Late, Turns, undone, Right, Burning}
 
 -- the rounds with one more
 abbrev pub put : (ℕ → ℕ) → ℕ → ℕ → ℕ → ℕ

@@ -18,7 +18,8 @@ use Rattle.settling.specs.WaitingLists.{waits, room, Pushed}
 use Rattle.settling.specs.Searches.{mark, occurs, Queued}
 use Rattle.settling.proofs.Queues.{mark-here, mark-there, queued-none, queued-push, queued-pop, popped-on, pushed-new}
 use Rattle.group.specs.declared.burning.Burnt.{Burnt}
-use Rattle.group.specs.Flames.{at, site-of, Noted, Late, Turns, undone, Right, Burning, Cool, Steady, Visit, Lighting, Up, Held, Fresh}
+use Rattle.firing.specs.Firing.{at}
+use Rattle.group.specs.Flames.{site-of, Noted, Late, Turns, undone, Right, Burning, Cool, Steady, Visit, Lighting, Up, Held, Fresh}
 use Rattle.group.proofs.Kindling.{put, put-at, put-off, undone-if, undone-not, right-more, right-next, right-visit, turns-push, late-turns, noted-push, noted-put, late-round}
 
 module _ (b : Shape) (h : ℕ → ℕ) where

@@ -15,7 +15,7 @@ use Rattle.board.specs.Shape.{Shape}
 use Rattle.firing.specs.Firing.{Lowest, CanFire}
 use Rattle.firing.specs.Burning.{Rounds, Recurrent}
 use Rattle.settling.specs.Reaching.{Astray}
-use Rattle.group.specs.Flames.{at}
+use Rattle.firing.specs.Firing.{at}
 
 -- heights and rounds are not n entries each, or the waiting list or the bytes are fewer
 abbrev pub Unfit : ℕ → ℕ → ℕ → ℕ → ℕ → Type 0

@@ -6,15 +6,12 @@ use mathlib.Core.Bool.{Bool}
 use Prim.Native.Nat.{ℕ, suc, _+_, _≤_, _<_}
 use lib.Dec.{ltb}
 use lib.ListN.{getD}
+use Rattle.firing.specs.Firing.{at}
 use Rattle.board.specs.Shape.{Shape, sum-below}
 use Rattle.firing.specs.TakingBack.{links-into}
 use Rattle.firing.specs.Burning.{unburnt, Rounds}
 use Rattle.settling.specs.Searches.{mark, Queued}
 use Rattle.group.specs.declared.burning.Burnt.{Burnt}
-
--- the number of v
-abbrev pub at : List ℕ → ℕ → ℕ
-at xs v = getD xs v 0
 
 -- the site and the round of an entry
 abbrev pub site-of : Burnt → ℕ

@@ -18,7 +18,8 @@ use Rattle.firing.specs.Reaching.{AllLinked}
 use Rattle.firing.proofs.Sums.{sum-jump}
 use Rattle.firing.proofs.Action.{inflow-le, run-follows, least-action, follows-conserves, run-least}
 use Rattle.settling.specs.declared.settle.Outcome.{Outcome}
-use Rattle.settling.specs.Firings.{at, FiresTimes}
+use Rattle.firing.specs.Firing.{at}
+use Rattle.settling.specs.Firings.{FiresTimes}
 use Rattle.settling.specs.Marks.{occurs, Queued, Covered, WaitRound, Visited}
 use Rattle.settling.specs.Settlings.{Ran, Ended}
 use Rattle.settling.proofs.Marking.{queued-length, queued-pop, popped-on, covered-pop, covered-fire}

@@ -18,7 +18,7 @@ use Rattle.firing.specs.Firing.{CanFire}
 use Rattle.firing.proofs.Sums.{sum-point}
 use Rattle.settling.specs.declared.waiting.WaitingList.{WaitingList}
 use Rattle.settling.specs.WaitingLists.{waits, room, Pushed}
-use Rattle.settling.specs.Firings.{at}
+use Rattle.firing.specs.Firing.{at}
 use Rattle.settling.specs.Marks.{occurs, Queued, Covered, Grown, Waits, WaitRound}
 
 hit : (u : ℕ) → _≡_ {A = ℕ} (cond (eqb u u) 1 0) 1

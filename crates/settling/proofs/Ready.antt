@@ -9,7 +9,8 @@ use Rattle.std.specs.Orderings.{When}
 use Rattle.std.proofs.shelf.Lists.{getD-past}
 use Rattle.board.specs.Shape.{Shape, deg}
 use Rattle.firing.specs.Firing.{fires-from, CanFire}
-use Rattle.settling.specs.Firings.{at, Enough}
+use Rattle.firing.specs.Firing.{at}
+use Rattle.settling.specs.Firings.{Enough}
 
 pub enough-can : (b : Shape) (h : ℕ → ℕ) (v : ℕ) → Enough (deg b v) (h v) → CanFire b h v
 unfolding fires-from

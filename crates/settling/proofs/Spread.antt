@@ -13,7 +13,8 @@ use Rattle.std.proofs.shelf.Lists.{getD-past}
 use Rattle.board.proofs.Walks.{linked-on, m-deg}
 use Rattle.board.proofs.Sums.{sum-term}
 use Rattle.firing.specs.Firing.{CanFire, Fires}
-use Rattle.settling.specs.Firings.{at, grains, FiresTimes}
+use Rattle.firing.specs.Firing.{at}
+use Rattle.settling.specs.Firings.{grains, FiresTimes}
 
 -- the heights xs after v has sent its grains, k times its links, to each site below j
 pub record Spread (b : Shape) (v k j : ℕ) (xs ys : List ℕ) : Type 0 where

@@ -14,7 +14,8 @@ use Rattle.board.specs.Shape.{Shape, Sound, deg, sum-below}
 use Rattle.firing.specs.Firing.{CanFire, Fires, Counts, Run, begin, fire}
 use Rattle.board.proofs.Sums.{sum-none}
 use Rattle.firing.proofs.Sums.{sum-point}
-use Rattle.settling.specs.Firings.{at, Enough, FiresTimes}
+use Rattle.firing.specs.Firing.{at}
+use Rattle.settling.specs.Firings.{Enough, FiresTimes}
 use Rattle.settling.specs.Marks.{Visited}
 use Rattle.settling.specs.Settlings.{Ran}
 use Rattle.settling.proofs.Ready.{enough-can, can-enough}

@@ -13,11 +13,7 @@ use Rattle.refusal.specs.declared.Part.{Part}
 use Rattle.refusal.specs.declared.Refusal.{Refusal}
 use Rattle.refusal.specs.Table.{Check, Passed, Refused}
 use Rattle.board.specs.Shape.{Shape, deg, sum-below}
-use Rattle.firing.specs.Firing.{CanFire, Still, Fires, Lowest}
-
--- what stands at v, and 0 past the end
-abbrev pub at : List ℕ → ℕ → ℕ
-at xs v = getD xs v 0
+use Rattle.firing.specs.Firing.{at, CanFire, Still, Fires, Lowest}
 
 -- all grains of a list of heights
 abbrev pub grains : List ℕ → ℕ

@@ -6,7 +6,8 @@ use Prim.Native.Nat.{ℕ, _+_, _≤_, _<_}
 use lib.Dec.{eqb}
 use Rattle.board.specs.Shape.{Shape, deg}
 use Rattle.firing.specs.Firing.{CanFire}
-use Rattle.settling.specs.Firings.{at, FiresTimes}
+use Rattle.firing.specs.Firing.{at}
+use Rattle.settling.specs.Firings.{FiresTimes}
 
 -- how often u waits
 abbrev pub occurs : ℕ → List ℕ → ℕ

@@ -13,7 +13,7 @@ use Rattle.refusal.specs.declared.Part.{Part}
 use Rattle.refusal.specs.declared.Refusal.{Refusal}
 use Rattle.refusal.specs.Table.{Check, Passed, Refused}
 use Rattle.board.specs.Shape.{Shape}
-use Rattle.firing.specs.Firing.{Lowest, CanFire, Still}
+use Rattle.firing.specs.Firing.{Lowest}
 use Rattle.firing.specs.Reaching.{Reaches, AllReach}
 
 -- true says P, and false that P does not hold
@@ -38,8 +38,3 @@ work-checks n w f = record { row = row.Memory; when = λ p. (p ≡ 0) × ((w < n
 abbrev pub ReachIs : Shape → ℕ → ℕ → Part → Result (Option ℕ) Refusal → Type 0
 ReachIs b w f part (Ok r) = Passed (work-checks (b .sites) w f) × LowestAstray b r
 ReachIs b w f part (Err e) = Refused (work-checks (b .sites) w f) part e
-
--- the lowest site that can fire, or none: the heights are still
-abbrev pub LowestFiring : Shape → (ℕ → ℕ) → Option ℕ → Type 0
-LowestFiring b h None = Still b h
-LowestFiring b h (Some v) = Lowest b (CanFire b h) v

@@ -17,7 +17,8 @@ use Rattle.firing.specs.Firing.{Still, Run}
 use Rattle.firing.specs.Settling.{drained, Settles, Least, Settled}
 use Rattle.firing.specs.Reaching.{AllLinked}
 use Rattle.settling.specs.declared.settle.Outcome.{Outcome}
-use Rattle.settling.specs.Firings.{at, grains}
+use Rattle.firing.specs.Firing.{at}
+use Rattle.settling.specs.Firings.{grains}
 
 -- k legal firings lead from heights c to heights h
 pub record Ran (b : Shape) (c h : ℕ → ℕ) (k : ℕ) : Type 0 where

@@ -1,12 +1,10 @@
 // Settling: the waiting list, firing, reach and settling, over any board and lent memory.
-pub mod fire;
-pub mod settle;
 mod entry;
+pub mod fire;
 pub mod reach;
-mod stillness;
+pub mod settle;
 mod waiting;
 
 pub use entry::Entry;
 pub use entry::SiteEntry;
-pub use stillness::lowest_firing;
 pub use waiting::WaitingList;

@@ -7,7 +7,7 @@ ghost use Rattle.refusal.specs.Table.{In-order, rows};
 ghost use Rattle.board.specs.Shape.{sum-below};
 ghost use Rattle.firing.specs.Firing.{Still};
 ghost use Rattle.settling.specs.WaitingLists.{waits, room};
-ghost use Rattle.settling.specs.Firings.{at};
+ghost use Rattle.firing.specs.Firing.{at};
 ghost use Rattle.settling.specs.Marks.{Queued, Covered, Waits, WaitRound, Visited};
 ghost use Rattle.settling.specs.Settlings.{Ran, Ended, Fit, Checked, SettledBy, settle-checks};
 use crate::WaitingList;

@@ -8,7 +8,8 @@ ghost use Rattle.settling.specs.Reaching.{Says};
 ghost use Rattle.board.specs.Shape.{Least};
 ghost use Rattle.firing.specs.TakingBack.{links-into};
 ghost use Rattle.firing.specs.Burning.{Rounds, AllBurn};
-ghost use Rattle.group.specs.Flames.{at, undone, Burning, Cool, Steady, Visit, Lighting, Up, Held, Fresh, Cleared, Ended};
+ghost use Rattle.firing.specs.Firing.{at};
+ghost use Rattle.group.specs.Flames.{undone, Burning, Cool, Steady, Visit, Lighting, Up, Held, Fresh, Cleared, Ended};
 ghost use Rattle.group.specs.Answers.{Burned};
 use super::Burnt;
 use crate::refusals::refused;
@@ -19,7 +20,7 @@ use refusal::Refusal;
 use refusal::Row;
 use settling::Entry;
 use settling::WaitingList;
-use settling::lowest_firing;
+use settling::fire::lowest_ready;
 use settling::reach::reach;
 
 // A search may wait in the same memory.
@@ -207,7 +208,7 @@ pub fn burn<B: Board>(
     if let Some(v) = reach(board, waiting, bytes, Part::Group)? {
         return Err(refused(Row::NoDrain, v));
     }
-    if let Some(v) = lowest_firing(board, heights) {
+    if let Some(v) = lowest_ready(board, heights) {
         return Err(refused(Row::NotStill, v));
     }
     Ok(burn_through(board, heights, rounds, waiting, bytes))

@@ -4,7 +4,7 @@ use lib.ListN.{length}
 use Prim.Native.Nat.{_+_}
 use Rattle.board.specs.Shape.{sum-below}
 use Rattle.board.proofs.Sums.{sum-suc, sum-more}
-use Rattle.settling.specs.Firings.{at}
+use Rattle.firing.specs.Firing.{at}
 use Rattle.settling.proofs.fire.all_grains.Needs as need
 
 pub loop-i-holds : need.loop-i-holds

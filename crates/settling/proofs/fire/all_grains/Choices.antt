@@ -2,7 +2,7 @@
 use mathlib.Core.Path.{_≡_}
 use Prim.Native.Nat.{_≤_}
 use Rattle.board.specs.Shape.{sum-below}
-use Rattle.settling.specs.Firings.{at}
+use Rattle.firing.specs.Firing.{at}
 use Rattle.settling.proofs.fire.all_grains.Given as given
 
 abbrev pub Inv-loop-i : given.InvT-loop-i

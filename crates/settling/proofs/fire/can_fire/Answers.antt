@@ -1,5 +1,5 @@
 -- What is left to show of `can_fire`.
-use Rattle.settling.specs.Firings.{at}
+use Rattle.firing.specs.Firing.{at}
 use Rattle.settling.proofs.Ready.{tested, past-still}
 use Rattle.settling.proofs.fire.can_fire.Needs as need
 

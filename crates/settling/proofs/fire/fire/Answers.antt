@@ -3,7 +3,7 @@ use mathlib.Core.Path.{refl}
 use native.Mathlib.Omega.{arith}
 use native.Mathlib.Nat.{mul-one}
 use Rattle.board.specs.Shape.{deg}
-use Rattle.settling.specs.Firings.{at}
+use Rattle.firing.specs.Firing.{at}
 use Rattle.settling.proofs.Ready.{can-enough}
 use Rattle.settling.proofs.Spread.{low-all, fires-once}
 use Rattle.settling.proofs.fire.fire.Needs as need

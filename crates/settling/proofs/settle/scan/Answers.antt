@@ -5,7 +5,7 @@ use native.Mathlib.Omega.{arith}
 use lib.ListN.{length, set, length-set}
 use Rattle.firing.specs.Firing.{CanFire}
 use Rattle.settling.specs.WaitingLists.{waits, room}
-use Rattle.settling.specs.Firings.{at}
+use Rattle.firing.specs.Firing.{at}
 use Rattle.settling.proofs.Marking.{Scanned, scanned-skip, scanned-wait, queued-more}
 use Rattle.settling.proofs.settle.scan.Needs as need
 use Rattle.settling.proofs.settle.scan.Needs.{then-can-fire, else-can-fire}

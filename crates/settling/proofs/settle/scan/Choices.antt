@@ -2,7 +2,7 @@
 use mathlib.Core.Path.{_≡_}
 use Rattle.firing.specs.Firing.{CanFire}
 use Rattle.settling.specs.WaitingLists.{waits, room}
-use Rattle.settling.specs.Firings.{at}
+use Rattle.firing.specs.Firing.{at}
 use Rattle.settling.proofs.Marking.{Scanned}
 use Rattle.settling.proofs.settle.scan.Given as given
 

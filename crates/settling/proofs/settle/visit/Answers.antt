@@ -3,7 +3,8 @@ use mathlib.Core.Path.{_≡_, refl, sym, subst, ap}
 use Prim.Native.Nat.{_*_, _/_, _≤_, min}
 use native.Mathlib.Omega.{arith}
 use lib.ListN.{getD}
-use Rattle.settling.specs.Firings.{at, Enough}
+use Rattle.firing.specs.Firing.{at}
+use Rattle.settling.specs.Firings.{Enough}
 use Rattle.settling.proofs.Visits.{times-fit, visited-some, visited-none}
 use Rattle.settling.proofs.settle.visit.Needs as need
 

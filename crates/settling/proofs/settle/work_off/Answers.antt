@@ -4,7 +4,7 @@ use Prim.Native.Nat.{_<_}
 use native.Mathlib.Omega.{arith}
 use lib.ListN.{length, length-set}
 use Rattle.settling.specs.WaitingLists.{waits}
-use Rattle.settling.specs.Firings.{at}
+use Rattle.firing.specs.Firing.{at}
 use Rattle.settling.proofs.Marking.{queued-length}
 use Rattle.settling.proofs.Visits.{ran-none}
 use Rattle.settling.proofs.Going.{ran-low, going-on, going-popped, going-skip, going-fire, going-still, falls-fire}

@@ -5,7 +5,8 @@ use native.Mathlib.Omega.{arith}
 use lib.ListN.{length}
 use Rattle.settling.specs.Searches.{mark}
 use Rattle.settling.specs.Reaching.{Says}
-use Rattle.group.specs.Flames.{at, Cleared}
+use Rattle.firing.specs.Firing.{at}
+use Rattle.group.specs.Flames.{Cleared}
 use Rattle.group.proofs.Ends.{cleared-rounds, cleared-says}
 use Rattle.group.proofs.burning.rounds.burn_through.Needs as need
 

@@ -3,7 +3,8 @@ use mathlib.Core.Path.{_≡_}
 use Prim.Native.Nat.{ℕ, _≤_, _<_}
 use Rattle.settling.specs.Searches.{mark}
 use Rattle.settling.specs.Reaching.{Says}
-use Rattle.group.specs.Flames.{at, Cleared}
+use Rattle.firing.specs.Firing.{at}
+use Rattle.group.specs.Flames.{Cleared}
 use Rattle.group.proofs.burning.rounds.clear_unburnt.Given as given
 
 abbrev pub Inv-loop-v : given.InvT-loop-v

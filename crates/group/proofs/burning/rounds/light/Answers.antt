@@ -2,7 +2,7 @@
 use mathlib.Core.Path.{refl, _∙_}
 use native.Mathlib.Omega.{arith}
 use Rattle.settling.specs.WaitingLists.{waits}
-use Rattle.group.specs.Flames.{at}
+use Rattle.firing.specs.Firing.{at}
 use Rattle.group.proofs.Visits.{lighting-none, lighting-more, lighting-all}
 use Rattle.group.proofs.burning.rounds.light.Needs as need
 

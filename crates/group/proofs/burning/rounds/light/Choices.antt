@@ -1,7 +1,8 @@
 -- The loop of `light`: the sites below u have been held against their heights.
 use mathlib.Core.Path.{_≡_}
 use Rattle.settling.specs.WaitingLists.{waits, room}
-use Rattle.group.specs.Flames.{at, Lighting}
+use Rattle.firing.specs.Firing.{at}
+use Rattle.group.specs.Flames.{Lighting}
 use Rattle.group.proofs.burning.rounds.light.Given as given
 
 abbrev pub Inv-loop-u : given.InvT-loop-u

@@ -3,7 +3,7 @@ use mathlib.Core.Path.{_≡_}
 use Prim.Native.Nat.{ℕ, _<_}
 use Rattle.board.specs.Shape.{row-total}
 use Rattle.settling.specs.Searches.{mark}
-use Rattle.group.specs.Flames.{at}
+use Rattle.firing.specs.Firing.{at}
 use Rattle.group.proofs.burning.rounds.prepare.Given as given
 
 abbrev pub Inv-loop-v : given.InvT-loop-v

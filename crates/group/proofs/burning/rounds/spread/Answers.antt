@@ -4,7 +4,8 @@ use mathlib.Core.List.{_∷_}
 use native.Mathlib.Omega.{arith}
 use lib.ListN.{set, length-set}
 use Rattle.settling.specs.WaitingLists.{waits}
-use Rattle.group.specs.Flames.{at, Steady}
+use Rattle.firing.specs.Firing.{at}
+use Rattle.group.specs.Flames.{Steady}
 use Rattle.group.proofs.Visits.{was, visit-begins, visit-less}
 use Rattle.group.proofs.Ends.{ended}
 use Rattle.group.proofs.burning.rounds.spread.Needs as need

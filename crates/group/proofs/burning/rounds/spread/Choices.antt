@@ -4,7 +4,8 @@ use Prim.Native.Nat.{ℕ, _+_, _-_}
 use Rattle.board.specs.Shape.{sum-below}
 use Rattle.settling.specs.Searches.{mark}
 use Rattle.settling.specs.WaitingLists.{waits, room}
-use Rattle.group.specs.Flames.{at, Steady}
+use Rattle.firing.specs.Firing.{at}
+use Rattle.group.specs.Flames.{Steady}
 use Rattle.group.proofs.burning.rounds.spread.Given as given
 
 abbrev pub Inv-loop-burnt : given.InvT-loop-burnt

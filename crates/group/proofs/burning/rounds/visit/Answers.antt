@@ -9,7 +9,8 @@ use Rattle.settling.specs.declared.waiting.WaitingList.{WaitingList}
 use Rattle.settling.specs.WaitingLists.{waits, room}
 use Rattle.settling.proofs.Queues.{mark-here}
 use Rattle.group.specs.declared.burning.Burnt.{Burnt}
-use Rattle.group.specs.Flames.{at, Visit, Held, Up}
+use Rattle.firing.specs.Firing.{at}
+use Rattle.group.specs.Flames.{Visit, Held, Up}
 use Rattle.group.proofs.Visits.{burning-number, visit-skip, visit-count, visit-held, visit-all, up-held}
 use Rattle.group.proofs.burning.rounds.visit.Needs as need
 use Rattle.group.proofs.burning.rounds.visit.Needs.{then-bytes-u-eq0, else-bytes-u-eq0}

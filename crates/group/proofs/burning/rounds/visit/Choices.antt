@@ -2,7 +2,8 @@
 use mathlib.Core.Path.{_≡_}
 use Prim.Native.Nat.{_-_, _≤_}
 use Rattle.settling.specs.WaitingLists.{waits, room}
-use Rattle.group.specs.Flames.{at, Visit, Up}
+use Rattle.firing.specs.Firing.{at}
+use Rattle.group.specs.Flames.{Visit, Up}
 use Rattle.group.proofs.burning.rounds.visit.Given as given
 
 abbrev pub Inv-loop-u : given.InvT-loop-u
