@@ -1,10 +1,15 @@
 -- What a push and a pop leave waiting.
-use mathlib.Core.Path.{_≡_, refl, sym, ap, _∙_}
+use mathlib.Core.Path.{_≡_, refl, sym, ap, subst, _∙_}
+use mathlib.Core.Logic.{inl, inr}
 use mathlib.Core.List.{List, [], _∷_, _++_}
 use Prim.Native.Nat.{ℕ, zero, suc, _+_, _-_, _≤_, _<_}
 use native.Mathlib.Omega.{arith}
 use lib.ListN.{length, getD, set, take, drop, length-drop, length-set}
 use Rattle.std.proofs.shelf.Lists.{take-append-le, length-take-le, drop-append-le, drop-set-add, drop-set-lt, take-more-set, set-append-right, drop-more, drop-at, getD-append-left}
+use lib.Dec.{eqb}
+use borrow.Author.Tests.{eq-eqb, ne-eqb}
+use Rattle.std.specs.Orderings.{When}
+use Rattle.std.proofs.shelf.Tests.{cases-eq}
 use Rattle.settling.specs.Slots.{waiting}
 
 pub push-near : {A : Type 0} (s : List A) (h n : ℕ) (x : A) → h + n < length s → waiting (set s (h + n) x) h (n + 1) ≡ waiting s h n ++ x ∷ []
@@ -50,3 +55,10 @@ pop-round s h n d e some le =
 
 pub length-waiting : {A : Type 0} (s : List A) (h n : ℕ) → h ≤ length s → n ≤ length s → length (waiting s h n) ≡ n
 length-waiting s h n le most = length-take-le n (drop h (s ++ s)) (omega (arith, length-drop h (s ++ s), lib.ListN.length-append s s))
+
+-- n entries wait in k slots: all slots are taken if and only if n is k
+pub full-test : (n k l : ℕ) → l ≡ n → n ≤ k → When (eqb n k) (l ≡ k) (l < k)
+full-test n k l e le = elim (cases-eq n k) [
+  | inl same ↦ subst (λ t. When t (l ≡ k) (l < k)) (sym (eq-eqb n k same)) (e ∙ same)
+  | inr apart ↦ subst (λ t. When t (l ≡ k) (l < k)) (sym (ne-eqb n k apart)) (omega arith)
+]

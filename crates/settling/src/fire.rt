@@ -58,6 +58,14 @@ pub(crate) fn all_grains(heights: &[u64], limit: u64) -> Option<u64>
     Some(sum)
 }
 
+// The grains that go along these links in so many firings.
+fn sent(links: u32, times: u64) -> u64
+    requires { ⌜ links * times ≤ 1000000 ⌝ }
+    ensures { λ r. ⌜ r ≡ links * times ⌝ }
+{
+    links as u64 * times
+}
+
 // Fires `v` so often in a row; `lost` is what it gives in all.
 pub(crate) fn fire_times<B: Board>(board: &B, heights: &mut [u64], v: usize, times: u64, lost: u64)
     requires sized { ⌜ length (now heights) ≡ shape (now board) .sites ⌝ }
@@ -71,8 +79,7 @@ pub(crate) fn fire_times<B: Board>(board: &B, heights: &mut [u64], v: usize, tim
     let mut j = 0;
     loop {
         let Some(u) = board.next(v, j) else { break };
-        let sent = board.links(v, u) as u64 * times;
-        heights[u] += sent;
+        heights[u] += sent(board.links(v, u), times);
         j = u + 1;
     }
 }
