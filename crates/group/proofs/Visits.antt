@@ -13,8 +13,8 @@ use Rattle.board.proofs.Walks.{linked-on}
 use Rattle.firing.specs.TakingBack.{links-into}
 use Rattle.firing.proofs.Sets.{into-same}
 use Rattle.firing.proofs.Sums.{sum-point, sum-jump}
-use Rattle.settling.specs.declared.waiting.WaitingList.{WaitingList}
-use Rattle.settling.specs.WaitingLists.{waits, room, Pushed}
+use Rattle.waiting.specs.declared.WaitingList.{WaitingList}
+use Rattle.waiting.specs.WaitingLists.{waits, room, Pushed}
 use Rattle.settling.specs.Searches.{mark, occurs, Queued}
 use Rattle.settling.proofs.Queues.{mark-here, mark-there, queued-none, queued-push, queued-pop, popped-on, pushed-new}
 use Rattle.group.specs.declared.burning.Burnt.{Burnt}

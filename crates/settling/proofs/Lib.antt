@@ -1,4 +1,3 @@
-pub mod Circles
 pub mod Spread
 pub mod Ready
 pub mod Marking

@@ -16,8 +16,8 @@ use Rattle.board.proofs.Sums.{sum-const}
 use Rattle.board.proofs.Walks.{linked-on}
 use Rattle.firing.specs.Firing.{CanFire}
 use Rattle.firing.proofs.Sums.{sum-point}
-use Rattle.settling.specs.declared.waiting.WaitingList.{WaitingList}
-use Rattle.settling.specs.WaitingLists.{waits, room, Pushed}
+use Rattle.waiting.specs.declared.WaitingList.{WaitingList}
+use Rattle.waiting.specs.WaitingLists.{waits, room, Pushed}
 use Rattle.firing.specs.Firing.{at}
 use Rattle.settling.specs.Marks.{occurs, Queued, Covered, Grown, Waits, WaitRound}
 

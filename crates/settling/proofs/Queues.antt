@@ -12,8 +12,8 @@ use Rattle.std.proofs.shelf.Tests.{cases-lt, cases-eq, cond-true, cond-false, e
 use Rattle.board.specs.Shape.{Shape, sum-below}
 use Rattle.board.proofs.Sums.{sum-const}
 use Rattle.firing.proofs.Sums.{sum-point}
-use Rattle.settling.specs.declared.waiting.WaitingList.{WaitingList}
-use Rattle.settling.specs.WaitingLists.{waits, room, Pushed}
+use Rattle.waiting.specs.declared.WaitingList.{WaitingList}
+use Rattle.waiting.specs.WaitingLists.{waits, room, Pushed}
 use Rattle.settling.specs.Searches.{mark, occurs, Queued, Offered}
 
 pub hit : (u x : ℕ) → u ≡ x → _≡_ {A = ℕ} (cond (eqb u x) 1 0) 1

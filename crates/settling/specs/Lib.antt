@@ -1,5 +1,3 @@
-pub mod Slots
-pub mod WaitingLists
 pub mod Firings
 pub mod Marks
 pub mod Settlings

@@ -3,15 +3,15 @@ ghost use mathlib.Core.Path.{_≡_};
 ghost use mathlib.Core.List.{[]};
 ghost use Prim.Native.Nat.{ℕ, _≤_, _<_};
 ghost use lib.ListN.{length};
-ghost use Rattle.settling.specs.WaitingLists.{waits, room};
+ghost use Rattle.waiting.specs.WaitingLists.{waits, room};
 ghost use Rattle.settling.specs.Searches.{mark, Queued, Offered, Found, Searching, Searched, LowestUnmarked};
 ghost use Rattle.settling.specs.Reaching.{ReachIs};
 use super::Entry;
-use super::WaitingList;
 use board::Board;
 use refusal::Part;
 use refusal::Refusal;
 use refusal::Row;
+use waiting::WaitingList;
 
 // No site is found yet.
 fn clear(bytes: &mut [u8])

@@ -6,11 +6,10 @@ ghost use lib.ListN.{length};
 ghost use Rattle.refusal.specs.Table.{In-order, rows};
 ghost use Rattle.board.specs.Shape.{sum-below};
 ghost use Rattle.firing.specs.Firing.{Still};
-ghost use Rattle.settling.specs.WaitingLists.{waits, room};
+ghost use Rattle.waiting.specs.WaitingLists.{waits, room};
 ghost use Rattle.firing.specs.Firing.{at};
 ghost use Rattle.settling.specs.Marks.{Queued, Covered, Waits, WaitRound, Visited};
 ghost use Rattle.settling.specs.Settlings.{Ran, Ended, Fit, Checked, SettledBy, settle-checks};
-use crate::WaitingList;
 use crate::fire::all_grains;
 use crate::fire::can_fire;
 use crate::fire::fire_times;
@@ -21,6 +20,7 @@ use board::degree;
 use refusal::Part;
 use refusal::Refusal;
 use refusal::Row;
+use waiting::WaitingList;
 
 // How many firings were made, and whether no site can fire after them.
 #[derive(Clone, Copy, PartialEq, Eq, Debug)]

@@ -2,7 +2,7 @@ ghost use mathlib.Core.Path.{_≡_};
 ghost use mathlib.Core.List.{[]};
 ghost use Prim.Native.Nat.{ℕ, _+_, _≤_, _<_};
 ghost use lib.ListN.{length};
-ghost use Rattle.settling.specs.WaitingLists.{waits, room};
+ghost use Rattle.waiting.specs.WaitingLists.{waits, room};
 ghost use Rattle.settling.specs.Searches.{mark};
 ghost use Rattle.settling.specs.Reaching.{Says};
 ghost use Rattle.board.specs.Shape.{Least};
@@ -19,9 +19,9 @@ use refusal::Part;
 use refusal::Refusal;
 use refusal::Row;
 use settling::Entry;
-use settling::WaitingList;
 use settling::fire::lowest_ready;
 use settling::reach::reach;
+use waiting::WaitingList;
 
 // A search may wait in the same memory.
 pub impl Entry for Burnt as BurntEntry {

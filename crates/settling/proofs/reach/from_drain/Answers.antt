@@ -1,7 +1,7 @@
 -- What is left to show of `from_drain`.
 use mathlib.Core.Path.{_≡_, refl, ap, subst, _∙_}
 use native.Mathlib.Omega.{arith}
-use Rattle.settling.specs.WaitingLists.{waits}
+use Rattle.waiting.specs.WaitingLists.{waits}
 use Rattle.settling.proofs.Searching.{Seeded, seeded-none, seeded-skip, seeded-more, seeded-all}
 use Rattle.settling.proofs.reach.from_drain.Needs as need
 

@@ -1,7 +1,7 @@
 -- The loop of `from_drain`: of the sites below, those linked to the drain are found, and no others.
 use mathlib.Core.Path.{_≡_}
 use Prim.Native.Nat.{ℕ, _≤_, _<_}
-use Rattle.settling.specs.WaitingLists.{waits, room}
+use Rattle.waiting.specs.WaitingLists.{waits, room}
 use Rattle.settling.proofs.Searching.{Seeded}
 use Rattle.settling.proofs.reach.from_drain.Given as given
 

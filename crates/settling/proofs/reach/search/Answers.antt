@@ -4,7 +4,7 @@ use mathlib.Core.List.{_∷_}
 use Prim.Native.Nat.{_≤_, _<_}
 use native.Mathlib.Omega.{arith}
 use lib.ListN.{length, set, length-set}
-use Rattle.settling.specs.WaitingLists.{waits}
+use Rattle.waiting.specs.WaitingLists.{waits}
 use Rattle.settling.specs.Searches.{mark, Queued, Found, Searching}
 use Rattle.settling.proofs.Queues.{popped-on, queued-pop}
 use Rattle.settling.proofs.Searching.{searching-more, searching-less, searching-end}

@@ -2,7 +2,7 @@
 use mathlib.Core.Path.{_≡_}
 use Prim.Native.Nat.{_+_, _-_}
 use Rattle.board.specs.Shape.{sum-below}
-use Rattle.settling.specs.WaitingLists.{waits, room}
+use Rattle.waiting.specs.WaitingLists.{waits, room}
 use Rattle.settling.specs.Searches.{mark, Searching}
 use Rattle.settling.proofs.reach.search.Given as given
 

@@ -2,7 +2,7 @@
 use mathlib.Core.Path.{_≡_, refl, sym, ap, subst, _∙_}
 use native.Mathlib.Omega.{arith}
 use Rattle.board.proofs.Walks.{linked-on}
-use Rattle.settling.specs.WaitingLists.{waits}
+use Rattle.waiting.specs.WaitingLists.{waits}
 use Rattle.settling.specs.Searches.{Queued, Offered}
 use Rattle.settling.proofs.Searching.{walked-none, walked-more, walked-end}
 use Rattle.settling.proofs.reach.spread.Needs as need

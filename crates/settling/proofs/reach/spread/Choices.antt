@@ -1,7 +1,7 @@
 -- The loop of `spread`: the sites below j that v is linked to are found, and no others are new.
 use mathlib.Core.Path.{_≡_}
 use Prim.Native.Nat.{_-_, _≤_}
-use Rattle.settling.specs.WaitingLists.{waits, room}
+use Rattle.waiting.specs.WaitingLists.{waits, room}
 use Rattle.settling.proofs.Searching.{Walked}
 use Rattle.settling.proofs.reach.spread.Given as given
 

@@ -4,7 +4,7 @@ use Prim.Native.Nat.{_+_, _<_}
 use native.Mathlib.Omega.{arith}
 use lib.ListN.{length, set, length-set}
 use Rattle.firing.specs.Firing.{CanFire}
-use Rattle.settling.specs.WaitingLists.{waits, room}
+use Rattle.waiting.specs.WaitingLists.{waits, room}
 use Rattle.firing.specs.Firing.{at}
 use Rattle.settling.proofs.Marking.{Scanned, scanned-skip, scanned-wait, queued-more}
 use Rattle.settling.proofs.settle.scan.Needs as need

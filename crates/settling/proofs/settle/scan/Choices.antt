@@ -1,7 +1,7 @@
 -- The loop of `scan`: the sites below v that can fire wait, and no other.
 use mathlib.Core.Path.{_≡_}
 use Rattle.firing.specs.Firing.{CanFire}
-use Rattle.settling.specs.WaitingLists.{waits, room}
+use Rattle.waiting.specs.WaitingLists.{waits, room}
 use Rattle.firing.specs.Firing.{at}
 use Rattle.settling.proofs.Marking.{Scanned}
 use Rattle.settling.proofs.settle.scan.Given as given

@@ -3,7 +3,7 @@ use mathlib.Core.Path.{_≡_, refl, _∙_}
 use Prim.Native.Nat.{_<_}
 use native.Mathlib.Omega.{arith}
 use Rattle.board.proofs.Walks.{linked-on}
-use Rattle.settling.specs.WaitingLists.{waits}
+use Rattle.waiting.specs.WaitingLists.{waits}
 use Rattle.settling.proofs.Marking.{walked-more, walked-end}
 use Rattle.settling.proofs.settle.wait_round.Needs as need
 

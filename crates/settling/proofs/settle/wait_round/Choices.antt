@@ -1,7 +1,7 @@
 -- The loop of `wait_round`: the sites below j that v is linked to wait.
 use mathlib.Core.Path.{_≡_}
 use Prim.Native.Nat.{_-_}
-use Rattle.settling.specs.WaitingLists.{waits, room}
+use Rattle.waiting.specs.WaitingLists.{waits, room}
 use Rattle.settling.proofs.Marking.{Walked}
 use Rattle.settling.proofs.settle.wait_round.Given as given
 

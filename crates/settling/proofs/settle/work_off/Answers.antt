@@ -3,7 +3,7 @@ use mathlib.Core.Path.{_≡_, refl, _∙_}
 use Prim.Native.Nat.{_<_}
 use native.Mathlib.Omega.{arith}
 use lib.ListN.{length, length-set}
-use Rattle.settling.specs.WaitingLists.{waits}
+use Rattle.waiting.specs.WaitingLists.{waits}
 use Rattle.firing.specs.Firing.{at}
 use Rattle.settling.proofs.Marking.{queued-length}
 use Rattle.settling.proofs.Visits.{ran-none}

@@ -2,7 +2,7 @@
 use mathlib.Core.Path.{_≡_}
 use Prim.Native.Nat.{_+_, _*_, _-_}
 use lib.ListN.{length}
-use Rattle.settling.specs.WaitingLists.{waits, room}
+use Rattle.waiting.specs.WaitingLists.{waits, room}
 use Rattle.firing.specs.Firing.{at}
 use Rattle.settling.proofs.Going.{Going}
 use Rattle.settling.proofs.settle.work_off.Given as given

@@ -1,6 +1,6 @@
 -- What is left to show of `hold`.
 use native.Mathlib.Omega.{arith}
-use Rattle.settling.specs.WaitingLists.{waits}
+use Rattle.waiting.specs.WaitingLists.{waits}
 use Rattle.firing.specs.Firing.{at}
 use Rattle.group.proofs.Visits.{few-rounds, held-burns, held-cool}
 use Rattle.group.proofs.burning.rounds.hold.Needs as need

@@ -1,7 +1,7 @@
 -- What is left to show of `light`.
 use mathlib.Core.Path.{refl, _∙_}
 use native.Mathlib.Omega.{arith}
-use Rattle.settling.specs.WaitingLists.{waits}
+use Rattle.waiting.specs.WaitingLists.{waits}
 use Rattle.firing.specs.Firing.{at}
 use Rattle.group.proofs.Visits.{lighting-none, lighting-more, lighting-all}
 use Rattle.group.proofs.burning.rounds.light.Needs as need

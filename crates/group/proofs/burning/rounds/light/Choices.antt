@@ -1,6 +1,6 @@
 -- The loop of `light`: the sites below u have been held against their heights.
 use mathlib.Core.Path.{_≡_}
-use Rattle.settling.specs.WaitingLists.{waits, room}
+use Rattle.waiting.specs.WaitingLists.{waits, room}
 use Rattle.firing.specs.Firing.{at}
 use Rattle.group.specs.Flames.{Lighting}
 use Rattle.group.proofs.burning.rounds.light.Given as given

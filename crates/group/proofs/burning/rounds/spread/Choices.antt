@@ -3,7 +3,7 @@ use mathlib.Core.Path.{_≡_}
 use Prim.Native.Nat.{ℕ, _+_, _-_}
 use Rattle.board.specs.Shape.{sum-below}
 use Rattle.settling.specs.Searches.{mark}
-use Rattle.settling.specs.WaitingLists.{waits, room}
+use Rattle.waiting.specs.WaitingLists.{waits, room}
 use Rattle.firing.specs.Firing.{at}
 use Rattle.group.specs.Flames.{Steady}
 use Rattle.group.proofs.burning.rounds.spread.Given as given

@@ -5,8 +5,8 @@ use Prim.Native.Nat.{ℕ, _+_, _-_, _<_}
 use native.Mathlib.Omega.{arith}
 use lib.ListN.{set, length-set}
 use Rattle.board.proofs.Walks.{linked-on}
-use Rattle.settling.specs.declared.waiting.WaitingList.{WaitingList}
-use Rattle.settling.specs.WaitingLists.{waits, room}
+use Rattle.waiting.specs.declared.WaitingList.{WaitingList}
+use Rattle.waiting.specs.WaitingLists.{waits, room}
 use Rattle.settling.proofs.Queues.{mark-here}
 use Rattle.group.specs.declared.burning.Burnt.{Burnt}
 use Rattle.firing.specs.Firing.{at}

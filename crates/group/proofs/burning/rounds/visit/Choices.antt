@@ -1,7 +1,7 @@
 -- The loop of `visit`: the links to the sites below j have been taken.
 use mathlib.Core.Path.{_≡_}
 use Prim.Native.Nat.{_-_, _≤_}
-use Rattle.settling.specs.WaitingLists.{waits, room}
+use Rattle.waiting.specs.WaitingLists.{waits, room}
 use Rattle.firing.specs.Firing.{at}
 use Rattle.group.specs.Flames.{Visit, Up}
 use Rattle.group.proofs.burning.rounds.visit.Given as given

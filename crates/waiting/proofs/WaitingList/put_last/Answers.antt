@@ -5,9 +5,9 @@ use mathlib.Core.List.{[], _∷_, _++_}
 use Prim.Native.Nat.{_+_, _<_}
 use native.Mathlib.Omega.{arith}
 use lib.ListN.{length, length-set, set}
-use Rattle.settling.specs.Slots.{waiting}
-use Rattle.settling.proofs.Circles.{push-near, push-round, length-waiting}
-use Rattle.settling.proofs.waiting.WaitingList.put_last.Needs as need
+use Rattle.waiting.specs.Slots.{waiting}
+use Rattle.waiting.proofs.Circles.{push-near, push-round, length-waiting}
+use Rattle.waiting.proofs.WaitingList.put_last.Needs as need
 
 pub slot-after-at-requires : need.slot-after-at-requires
 slot-after-at-requires g c κs =

@@ -1,9 +1,9 @@
 -- What is left to show of `is_full`.
 use native.Mathlib.Omega.{arith}
 use lib.ListN.{length}
-use Rattle.settling.specs.Slots.{waiting}
-use Rattle.settling.proofs.Circles.{length-waiting, full-test}
-use Rattle.settling.proofs.waiting.WaitingList.is_full.Needs as need
+use Rattle.waiting.specs.Slots.{waiting}
+use Rattle.waiting.proofs.Circles.{length-waiting, full-test}
+use Rattle.waiting.proofs.WaitingList.is_full.Needs as need
 
 pub returns : need.returns
 returns g c =

@@ -5,8 +5,8 @@ ghost use Prim.Native.Nat.{ℕ, _≤_, _<_};
 ghost use lib.ListN.{length};
 ghost use denote.Ref.{name};
 ghost use Rattle.std.specs.Orderings.{When};
-ghost use Rattle.settling.specs.Slots.{SlotAfter};
-ghost use Rattle.settling.specs.WaitingLists.{waits, room, Pushed, Popped};
+ghost use Rattle.waiting.specs.Slots.{SlotAfter};
+ghost use Rattle.waiting.specs.WaitingLists.{waits, room, Pushed, Popped};
 use super::WaitingList;
 
 impl<'a, T: Copy> WaitingList<'a, T> {

@@ -5,8 +5,8 @@ use Prim.Native.Nat.{ℕ, _≤_, _<_}
 use lib.ListN.{length}
 use Rattle.std.specs.declared.option.Option.{Option}
 use Rattle.std.specs.declared.option.Option.the-variants.{Some, None}
-use Rattle.settling.specs.declared.waiting.WaitingList.{WaitingList}
-use Rattle.settling.specs.Slots.{waiting}
+use Rattle.waiting.specs.declared.WaitingList.{WaitingList}
+use Rattle.waiting.specs.Slots.{waiting}
 
 -- what waits, the first first
 abbrev pub waits : {T : Type 0} → WaitingList T → List T

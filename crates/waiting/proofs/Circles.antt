@@ -10,7 +10,7 @@ use lib.Dec.{eqb}
 use borrow.Author.Tests.{eq-eqb, ne-eqb}
 use Rattle.std.specs.Orderings.{When}
 use Rattle.std.proofs.shelf.Tests.{cases-eq}
-use Rattle.settling.specs.Slots.{waiting}
+use Rattle.waiting.specs.Slots.{waiting}
 
 pub push-near : {A : Type 0} (s : List A) (h n : ℕ) (x : A) → h + n < length s → waiting (set s (h + n) x) h (n + 1) ≡ waiting s h n ++ x ∷ []
 push-near s h n x lt =

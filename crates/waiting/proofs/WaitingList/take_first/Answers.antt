@@ -5,9 +5,9 @@ use mathlib.Core.List.{_∷_}
 use Prim.Native.Nat.{_+_, _-_}
 use native.Mathlib.Omega.{arith}
 use lib.ListN.{getD}
-use Rattle.settling.specs.Slots.{waiting}
-use Rattle.settling.proofs.Circles.{pop-near, pop-round}
-use Rattle.settling.proofs.waiting.WaitingList.take_first.Needs as need
+use Rattle.waiting.specs.Slots.{waiting}
+use Rattle.waiting.proofs.Circles.{pop-near, pop-round}
+use Rattle.waiting.proofs.WaitingList.take_first.Needs as need
 
 pub returns : need.returns
 returns g c =
