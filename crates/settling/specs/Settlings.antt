@@ -49,17 +49,16 @@ settle-checks n xs slots bytes budget =
     ∷ record { row = row.Limit; when = λ p. (p ≡ 0) × (Beyond 1 1000000000 budget ⊎ (1000000 < grains xs)) }
     ∷ []
 
--- memory, grains and budget that settling needs
-pub record Fit (n : ℕ) (xs : List ℕ) (slots bytes budget : ℕ) : Type 0 where
+-- memory and grains that settling needs
+pub record Fit (n : ℕ) (xs : List ℕ) (slots bytes : ℕ) : Type 0 where
   pub sized : length xs ≡ n
   pub list : n ≤ slots
   pub marks : n ≤ bytes
   pub light : grains xs ≤ 1000000
-  pub some : 1 ≤ budget
 
 -- no check refuses, or the first that does
 abbrev pub Checked : ℕ → List ℕ → ℕ → ℕ → ℕ → Part → Result Unit Refusal → Type 0
-Checked n xs slots bytes budget part (Ok _) = Passed (settle-checks n xs slots bytes budget) × Fit n xs slots bytes budget
+Checked n xs slots bytes budget part (Ok _) = Passed (settle-checks n xs slots bytes budget) × Fit n xs slots bytes × (1 ≤ budget)
 Checked n xs slots bytes budget part (Err e) = Refused (settle-checks n xs slots bytes budget) part e
 
 -- the heights xs become ys; or nothing changes

@@ -166,7 +166,7 @@ fn settle_fit<B: Board>(
     marks: &mut [u8],
     budget: u64,
 ) -> Outcome
-    requires { ⌜ Fit (shape (now board) .sites) (now heights) (length (now waiting)) (length (now marks)) budget ⌝ }
+    requires { ⌜ Fit (shape (now board) .sites) (now heights) (length (now waiting)) (length (now marks)) ⌝ }
     ensures { λ o. ⌜ Ended (shape (now (board .entry))) (at (now (heights .entry))) (at (now (heights .exit))) budget o ⌝ }
 {
     let mut list = WaitingList::new(waiting);
