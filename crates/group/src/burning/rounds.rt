@@ -47,6 +47,14 @@ fn prepare<B: Board>(board: &B, rounds: &mut [u32], bytes: &mut [u8])
     }
 }
 
+// The round after `last`; there are at most twice as many rounds as sites.
+fn round_after(last: u32) -> u32
+    requires { ⌜ last ≤ 8192 ⌝ }
+    ensures { λ r. ⌜ r ≡ last + 1 ⌝ }
+{
+    last + 1
+}
+
 // Holds the height of `u` against its links to what still counts as unburnt; if it is as high, it burns in the round
 // after `last`.
 fn hold<B: Board>(
@@ -70,7 +78,7 @@ fn hold<B: Board>(
     ensures room { λ _. ⌜ room (now (list .exit)) ≡ room (now (list .entry)) ⌝ }
 {
     if heights[u] >= rounds[u] as u64 {
-        let round = last + 1;
+        let round = round_after(last);
         rounds[u] = round;
         bytes[u] = 1;
         let _pushed = list.push(Burnt { site: u, round });
