@@ -1,15 +1,17 @@
+// The rounds of burning: sites burn, wait, and are taken from the numbers of their neighbours, first in, first out.
 ghost use mathlib.Core.Path.{_≡_};
-ghost use mathlib.Core.List.{[]};
 ghost use Prim.Native.Nat.{ℕ, _+_, _≤_, _<_};
 ghost use lib.ListN.{length};
 ghost use Rattle.settling.specs.WaitingLists.{waits, room};
 ghost use Rattle.settling.specs.Searches.{mark};
 ghost use Rattle.settling.specs.Reaching.{Says};
-ghost use Rattle.board.specs.Shape.{Least};
 ghost use Rattle.firing.specs.TakingBack.{links-into};
 ghost use Rattle.firing.specs.Burning.{Rounds, AllBurn};
 ghost use Rattle.group.specs.Flames.{at, undone, Burning, Cool, Steady, Visit, Lighting, Up, Held, Fresh, Cleared, Ended};
-ghost use Rattle.group.specs.Answers.{Burned};
+ghost use mathlib.Core.List.{List, []};
+ghost use Rattle.refusal.specs.Table.{In-order, rows as rows-of};
+ghost use Rattle.board.specs.Shape.{Shape};
+ghost use Rattle.group.specs.Answers.{Burned, burn-checks};
 use super::Burnt;
 use crate::refusals::refused;
 use board::Board;
@@ -219,4 +221,11 @@ pub fn burn<B: Board>(
         return Err(refused(Row::NotStill, v));
     }
     Ok(burn_through(board, heights, rounds, waiting, bytes))
+}
+
+// The rows by which burning refuses, in their order.
+pub fn burn_checks() -> [Row; 3]
+    ensures { λ r. ⌜ ((b : Shape) (hs : List ℕ) (rounds waiting bytes : ℕ) → (r ≡ rows-of (burn-checks b hs rounds waiting bytes)) × In-order (burn-checks b hs rounds waiting bytes)) ⌝ }
+{
+    [Row::Memory, Row::NoDrain, Row::NotStill]
 }
