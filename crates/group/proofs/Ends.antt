@@ -9,9 +9,8 @@ use lib.ListN.{length}
 use Rattle.std.proofs.shelf.Tests.{both-ways, cases-lt, cases-eq, ltb-true}
 use Rattle.board.specs.Shape.{Shape, Sound, sum-below}
 use Rattle.firing.specs.Settling.{Same}
-use Rattle.firing.specs.Firing.{Still}
 use Rattle.firing.specs.TakingBack.{links-into, AsHigh}
-use Rattle.firing.specs.Burning.{unburnt, Rounds, AllBurn, Recurrent}
+use Rattle.firing.specs.Burning.{unburnt, Rounds, AllBurn}
 use Rattle.firing.proofs.Sets.{into-le}
 use Rattle.firing.proofs.Rounds.{unburnt-never, unburnt-later, unburnt-cases, high-same, rounds-once}
 use Rattle.firing.proofs.Stands.{plain-heights}
@@ -93,7 +92,3 @@ module _ (b : Shape) (ok : Sound b) (h : ℕ → ℕ) where
     pub cleared-says : (t : Bool) → Says t ((u : ℕ) → u < b .sites → 1 ≤ mark fs u) → Says t (AllBurn b h)
     cleared-says true all = (E .rounds, E .are, λ v l. E .some v l (all v l))
     cleared-says false not-all = λ all. not-all (all-marked all)
-
-pub says-recurrent : (b : Shape) (h : ℕ → ℕ) (t : Bool) → Still b h → Says t (AllBurn b h) → (t ≡ true) ↔ Recurrent b h
-says-recurrent b h true still all = (λ e. (still, all), λ r. refl)
-says-recurrent b h false still no′ = (λ e. absurd (both-ways false refl e), λ r. absurd (no′ (r .1)))

@@ -59,9 +59,6 @@ module _ (b : Shape) (h : ℕ → ℕ) where
     here = inl (mark-here fs v 1 v (omega arith) refl);
   }
 
-  pub held-cool : (r v : ℕ) (es : List Burnt) (fs xs : List ℕ) → mark fs v ≡ 0 → h v < at xs v → Burning b h r es fs xs → Held b h r v fs xs es fs xs
-  held-cool r v es fs xs nil low B = record { burning = B; marks = λ w ne. refl; numbers = λ w ne. refl; here = inr (nil, refl, low) }
-
   -- the number of an unburnt site changes
   pub burning-number : (r v x : ℕ) (es : List Burnt) (fs xs : List ℕ) → mark fs v ≡ 0 → Burning b h r es fs xs → Burning b h r es fs (set xs v x)
   burning-number r v x es fs xs nil B = record {

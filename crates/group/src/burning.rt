@@ -3,6 +3,7 @@ mod rounds;
 
 pub use rounds::BurntEntry;
 pub use rounds::burn;
+pub use rounds::burn_checks;
 
 // A burnt site that waits, with its round.
 #[derive(Clone, Copy)]

@@ -1,16 +1,18 @@
+// The rounds of burning: sites burn, wait, and are taken from the numbers of their neighbours, first in, first out.
 ghost use mathlib.Core.Path.{_≡_};
-ghost use mathlib.Core.List.{[]};
 ghost use Prim.Native.Nat.{ℕ, _+_, _≤_, _<_};
 ghost use lib.ListN.{length};
 ghost use Rattle.waiting.specs.WaitingLists.{waits, room};
 ghost use Rattle.settling.specs.Searches.{mark};
 ghost use Rattle.settling.specs.Reaching.{Says};
-ghost use Rattle.board.specs.Shape.{Least};
 ghost use Rattle.firing.specs.TakingBack.{links-into};
 ghost use Rattle.firing.specs.Burning.{Rounds, AllBurn};
+ghost use mathlib.Core.List.{List, []};
+ghost use Rattle.refusal.specs.Table.{In-order, rows as rows-of};
+ghost use Rattle.board.specs.Shape.{Shape};
 ghost use Rattle.firing.specs.Firing.{at};
 ghost use Rattle.group.specs.Flames.{undone, Burning, Cool, Steady, Visit, Lighting, Up, Held, Fresh, Cleared, Ended};
-ghost use Rattle.group.specs.Answers.{Burned};
+ghost use Rattle.group.specs.Answers.{Burned, burn-checks};
 use super::Burnt;
 use crate::refusals::refused;
 use board::Board;
@@ -48,6 +50,14 @@ fn prepare<B: Board>(board: &B, rounds: &mut [u32], bytes: &mut [u8])
     }
 }
 
+// The round after `last`; there are at most twice as many rounds as sites.
+fn round_after(last: u32) -> u32
+    requires { ⌜ last ≤ 8192 ⌝ }
+    ensures { λ r. ⌜ r ≡ last + 1 ⌝ }
+{
+    last + 1
+}
+
 // Holds the height of `u` against its links to what still counts as unburnt; if it is as high, it burns in the round
 // after `last`.
 fn hold<B: Board>(
@@ -71,7 +81,7 @@ fn hold<B: Board>(
     ensures room { λ _. ⌜ room (now (list .exit)) ≡ room (now (list .entry)) ⌝ }
 {
     if heights[u] >= rounds[u] as u64 {
-        let round = last + 1;
+        let round = round_after(last);
         rounds[u] = round;
         bytes[u] = 1;
         let _pushed = list.push(Burnt { site: u, round });
@@ -212,4 +222,11 @@ pub fn burn<B: Board>(
         return Err(refused(Row::NotStill, v));
     }
     Ok(burn_through(board, heights, rounds, waiting, bytes))
+}
+
+// The rows by which burning refuses, in their order.
+pub fn burn_checks() -> [Row; 3]
+    ensures { λ r. ⌜ ((b : Shape) (hs : List ℕ) (rounds waiting bytes : ℕ) → (r ≡ rows-of (burn-checks b hs rounds waiting bytes)) × In-order (burn-checks b hs rounds waiting bytes)) ⌝ }
+{
+    [Row::Memory, Row::NoDrain, Row::NotStill]
 }
