@@ -1,3 +1,4 @@
+// What waits: new, clear, push at the end, pop at the front.
 ghost use mathlib.Core.Path.{_≡_};
 ghost use mathlib.Core.List.{[], _∷_, _++_};
 ghost use mathlib.Core.Bool.{true};
@@ -10,6 +11,7 @@ ghost use Rattle.waiting.specs.WaitingLists.{waits, room, Pushed, Popped};
 use super::WaitingList;
 
 impl<'a, T: Copy> WaitingList<'a, T> {
+    // A list over these slots; none waits.
     pub fn new(slots: &'a mut [T]) -> WaitingList<'a, T>
         ensures empty { λ r. ⌜ waits r ≡ [] ⌝ }
         ensures room { λ r. ⌜ room r ≡ length (now (slots .entry)) ⌝ }
@@ -22,12 +24,14 @@ impl<'a, T: Copy> WaitingList<'a, T> {
         }
     }
 
+    // How many can wait.
     pub fn room(&self) -> usize
         ensures { λ r. ⌜ r ≡ room (now (self .entry)) ⌝ }
     {
         self.slots.len()
     }
 
+    // Has none wait.
     pub fn clear(&mut self)
         ensures empty { λ _. ⌜ waits (now (self .exit)) ≡ [] ⌝ }
         ensures room { λ _. ⌜ room (now (self .exit)) ≡ room (now (self .entry)) ⌝ }
@@ -70,6 +74,7 @@ impl<'a, T: Copy> WaitingList<'a, T> {
         x
     }
 
+    // Has `x` wait as the last; false where there is no room.
     pub fn push(&mut self, x: T) -> bool
         ensures pushed { λ r. ⌜ Pushed (now (self .entry)) x (now (self .exit)) r ⌝ }
         ensures room { λ _. ⌜ room (now (self .exit)) ≡ room (now (self .entry)) ⌝ }
@@ -82,6 +87,7 @@ impl<'a, T: Copy> WaitingList<'a, T> {
         true
     }
 
+    // Takes the first that waits, or none.
     pub fn pop(&mut self) -> Option<T>
         ensures popped { λ r. ⌜ Popped (waits (now (self .entry))) (waits (now (self .exit))) r ⌝ }
         ensures room { λ _. ⌜ room (now (self .exit)) ≡ room (now (self .entry)) ⌝ }
