@@ -53,19 +53,15 @@ pub invariant_of-self : goal.invariant_of-self
 invariant_of-self c =
     let b = c.args.self.now in
     let l : Link = record { site = c.args.a; other = c.args.b; count = c.args.k } in
-    let in_b : b.held < length b.records = omega arith in (
-      b.some,
-      (
-        b.few,
-        (
-          omega arith,
-          (
-            grow_fit b.records b.held b.sites l in_b b.fit c.in_default.ensures (omega arith),
-            (omega (arith, grow_weight b.records b.held l in_b), (omega arith, tt)),
-          ),
-        ),
-      ),
-    )
+    let in_b : b.held < length b.records = omega arith in
+    record {
+      some = b.some;
+      few = b.few;
+      room = omega arith;
+      fit = grow_fit b.records b.held b.sites l in_b b.fit c.in_default.ensures (omega arith);
+      adds = omega (arith, grow_weight b.records b.held l in_b);
+      limit = omega arith;
+    }
 
 pub returns : goal.returns
 returns c =

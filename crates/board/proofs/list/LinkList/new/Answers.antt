@@ -8,7 +8,7 @@ none : {X : Type 0} (i : _) → i < 0 → X
 none i h = absurd (omega arith)
 
 pub invariant_of-result : goal.invariant_of-result
-invariant_of-result c = (omega arith, (omega arith, (omega arith, ((λ i h. none i h), (sym (weights_none _), (omega arith, tt))))))
+invariant_of-result c = record { some = omega arith; few = omega arith; room = omega arith; fit = λ i h. none i h; adds = sym (weights_none _); limit = omega arith }
 
 pub returns : goal.returns
 returns c = (search rules, refl, listed_none c.args.sites _)
