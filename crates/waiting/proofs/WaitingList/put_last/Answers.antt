@@ -45,4 +45,4 @@ invariant_of-self g c =
     let n = c.args.self.now.len in
     let less : n < length s = omega (arith, c.requires, length_waiting s h n (omega arith) (omega arith)) in
     let same = length-set s c.slot_after-at.result c.args.x in
-    ((omega arith, omega arith), tt)
+    record { ok = (omega arith, omega arith) }

@@ -27,7 +27,7 @@ invariant_of-self-then-i-self g c =
     let i = c.find-i.result in
     let small = raise_fits (g.B.Board.shape e.below) (g.met.B.Board.sound e.below) e.held c.find-i.result e.entries c.if-i-self.true c.args.a c.args.b c.args.k
     (omega arith) (c.find-i.ensures.here c.if-i-self.true) (omega arith) in
-    (e.room, (low_set e.entries e.held i (raised (get_or e.entries i no_link) c.args.k) (omega arith) small (λ k h p. e.low k h), tt))
+    record { room = e.room; low = low_set e.entries e.held i (raised (get_or e.entries i no_link) c.args.k) (omega arith) small (λ k h p. e.low k h) }
 
 pub returns-then-i-self : goal.returns-then-i-self
 returns-then-i-self g c =
@@ -52,7 +52,7 @@ invariant_of-self-2 g c =
     let e = c.args.self.now in
     let l : Link = record { site = c.args.a; other = c.args.b; count = c.args.k } in
     let small = new_fits (g.B.Board.shape e.below) (g.met.B.Board.sound e.below) e.held e.entries c.args.a c.args.b c.args.k (omega arith) in
-    (omega arith, (low_set e.entries (e.held + 1) e.held l (omega arith) small (λ k h p. e.low k (omega arith)), tt))
+    record { room = omega arith; low = low_set e.entries (e.held + 1) e.held l (omega arith) small (λ k h p. e.low k (omega arith)) }
 
 pub returns : goal.returns
 returns g c =
