@@ -24,8 +24,8 @@ fn offer<E: Entry>(n: usize, list: &mut WaitingList<E>, bytes: &mut [u8], v: usi
     requires room { n ≤ room list.old }
     requires bytes { n ≤ length bytes.old }
     requires on { v < n }
-    requires queued { Queued site n (waits list.old) bytes.old }
-    ensures offered { Offered site n v bytes.old (waits list.new) bytes.new }
+    requires queued { Queued E.Entry.site n (waits list.old) bytes.old }
+    ensures offered { Offered E.Entry.site n v bytes.old (waits list.new) bytes.new }
     ensures room { room list.new ≡ room list.old }
 {
     if bytes[v] == 0 {
@@ -40,7 +40,7 @@ fn from_drain<B: Board, E: Entry>(board: &B, list: &mut WaitingList<E>, bytes: &
     requires bytes { (B.Board.shape board.now).sites ≤ length bytes.old }
     requires none { (u : ℕ) → u < (B.Board.shape board.now).sites → mark bytes.old u ≡ 0 }
     requires empty { waits list.old ≡ [] }
-    ensures searching { Searching site (B.Board.shape board.now) (waits list.new) bytes.new }
+    ensures searching { Searching E.Entry.site (B.Board.shape board.now) (waits list.new) bytes.new }
     ensures room { room list.new ≡ room list.old }
 {
     let n = board.count();
@@ -55,8 +55,8 @@ fn from_drain<B: Board, E: Entry>(board: &B, list: &mut WaitingList<E>, bytes: &
 fn spread<B: Board, E: Entry>(board: &B, list: &mut WaitingList<E>, bytes: &mut [u8], v: usize)
     requires room { (B.Board.shape board.now).sites ≤ room list.old }
     requires bytes { (B.Board.shape board.now).sites ≤ length bytes.old }
-    requires queued { Queued site (B.Board.shape board.now).sites (waits list.old) bytes.old }
-    ensures found { Found site (B.Board.shape board.now).sites (λ u. 1 ≤ (B.Board.shape board.now).m v u) bytes.old (waits list.new) bytes.new }
+    requires queued { Queued E.Entry.site (B.Board.shape board.now).sites (waits list.old) bytes.old }
+    ensures found { Found E.Entry.site (B.Board.shape board.now).sites (λ u. 1 ≤ (B.Board.shape board.now).m v u) bytes.old (waits list.new) bytes.new }
     ensures room { room list.new ≡ room list.old }
 {
     let n = board.count();
@@ -72,7 +72,7 @@ fn spread<B: Board, E: Entry>(board: &B, list: &mut WaitingList<E>, bytes: &mut 
 fn search<B: Board, E: Entry>(board: &B, list: &mut WaitingList<E>, bytes: &mut [u8])
     requires room { (B.Board.shape board.now).sites ≤ room list.old }
     requires bytes { (B.Board.shape board.now).sites ≤ length bytes.old }
-    requires searching { Searching site (B.Board.shape board.now) (waits list.old) bytes.old }
+    requires searching { Searching E.Entry.site (B.Board.shape board.now) (waits list.old) bytes.old }
     ensures { Searched (B.Board.shape board.now) bytes.new }
 {
     loop {
