@@ -82,41 +82,30 @@ module _ {s : Shape} (sound : Sound s) {b : Bench} {xs cs ws ks : List ℕ} {w :
   kept = moved_conserved s sound b.heights.len (vec_items b.heights) (vec_items (with_items b.heights ws)) w b.drained d b.grains a.sized run_there b.conserved a.drains
 
   -- what the bench's type asks of it
-  pub moved_ghosts :
-      (b.counts.len ≡ b.heights.len)
-      × ((b.opened.len ≡ b.heights.len)
-      × ((sum_below b.heights.len (at (vec_items (with_items b.heights ws))) + d ≡ b.grains)
-      × ((b.grains ≤ 1000000)
-      × ((sum_below b.heights.len (at (vec_items (with_items b.counts ks))) ≡ f)
-      × ((f ≤ b.ceiling)
-      × ((b.ceiling ≤ 1000000000000)
-      × (((u : ℕ) → at (vec_items b.opened) u ≤ at (vec_items (with_items b.counts ks)) u)
-      × ((b.drained_before ≤ d) × ((b.number ≤ b.grains) × Unit {0})))))))))
-  moved_ghosts = (
-    b.counts_sized,
-    (
-      b.opened_sized,
-      (
-        kept,
-        (
-          b.light,
-          (
-            moved_counted s b.heights.len (vec_items b.counts) (vec_items (with_items b.counts ks)) w b.fired f a.sized counted_there b.counted a.fired,
-            (
-              a.under,
-              (
-                b.most,
-                (
-                  moved_grown s (vec_items b.counts) (vec_items (with_items b.counts ks)) (vec_items b.opened) w (omega (arith, b.counts.ok.0, b.counts_sized, a.sized)) counted_there b.grown,
-                  (omega (arith, a.drains, b.earlier), (b.numbered, tt)),
-                ),
-              ),
-            ),
-          ),
-        ),
-      ),
-    ),
-  )
+  pub moved_ghosts : record {
+    counts_sized : b.counts.len ≡ b.heights.len;
+    opened_sized : b.opened.len ≡ b.heights.len;
+    conserved : sum_below b.heights.len (at (vec_items (with_items b.heights ws))) + d ≡ b.grains;
+    light : b.grains ≤ 1000000;
+    counted : sum_below b.heights.len (at (vec_items (with_items b.counts ks))) ≡ f;
+    under : f ≤ b.ceiling;
+    most : b.ceiling ≤ 1000000000000;
+    grown : (u : ℕ) → at (vec_items b.opened) u ≤ at (vec_items (with_items b.counts ks)) u;
+    earlier : b.drained_before ≤ d;
+    numbered : b.number ≤ b.grains;
+  }
+  moved_ghosts = record {
+    counts_sized = b.counts_sized;
+    opened_sized = b.opened_sized;
+    conserved = kept;
+    light = b.light;
+    counted = moved_counted s b.heights.len (vec_items b.counts) (vec_items (with_items b.counts ks)) w b.fired f a.sized counted_there b.counted a.fired;
+    under = a.under;
+    most = b.most;
+    grown = moved_grown s (vec_items b.counts) (vec_items (with_items b.counts ks)) (vec_items b.opened) w (omega (arith, b.counts.ok.0, b.counts_sized, a.sized)) counted_there b.grown;
+    earlier = omega (arith, a.drains, b.earlier);
+    numbered = b.numbered;
+  }
 
   pub moved_conserves : (next : Phase) → Conserved (moved b ws ks next f d)
   moved_conserves next =

@@ -11,7 +11,8 @@ use board::Board;
 use refusal::Part;
 use settling::fire::{can_fire, lowest_ready};
 use settling::near::fire_near;
-use settling::settle::{Outcome, settle_counting};
+use settling::counting::settle_counting;
+use settling::settle::Outcome;
 
 // All entries together.
 pub(crate) fn total(xs: &[u64]) -> u64

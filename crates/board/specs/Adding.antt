@@ -6,7 +6,6 @@ use Rattle.refusal.specs.declared.Refusal.{Refusal}
 use Rattle.refusal.specs.Table.{Check, Passed, Refused}
 use Rattle.board.specs.Shape.{Shape, all_links}
 use Rattle.board.specs.Limits.{Beyond}
-use Rattle.board.specs.declared.link.Link.{Link}
 use Rattle.board.specs.declared.link.End.{End}
 use Rattle.board.specs.Links.{weight, Misfit}
 use Rattle.board.specs.declared.list.LinkList.{LinkList}

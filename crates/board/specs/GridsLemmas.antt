@@ -1,14 +1,14 @@
 -- A grid is a board.
-use Rattle.std.specs.Prelude.{◌≡◌, ℕ, ◌+◌, ◌-◌, ◌*◌, ◌<◌, ◌≤◌, Bool, true, false, cond, ◌&&◌, ◌⊎◌, ◌==◌, nat_lt}
+use Rattle.std.specs.Prelude.{◌≡◌, ℕ, ◌+◌, ◌-◌, ◌*◌, ◌<◌, ◌≤◌, Bool, ◌&&◌, ◌==◌, nat_lt}
 use Rattle.std.proofs.Math.Path.{refl}
 use Rattle.std.proofs.Common.{sym, ◌∙◌, ap, inl, inr}
 use Rattle.std.proofs.Math.Nat.{mul-le-mul}
 use native.Mathlib.Omega.{arith}
-use Rattle.std.proofs.lemmas.Bool.{cases_lt, cases_Bool, cond-true, cond-false, and_from, and_left, and_right, lt-ltb, le-ltb, eq-eqb, ne_eqb, both_ways}
-use Rattle.board.specs.Shape.{Shape, Sound, Least, row_total, sum_below}
+use Rattle.std.proofs.lemmas.Bool.{cases_lt, cases_Bool, cond-true, cond-false, and_from, and_left, and_right, lt-ltb, le-ltb, eq-eqb, ne_eqb}
+use Rattle.board.specs.Shape.{Sound, Least, row_total}
 use Rattle.board.specs.Grids.{row_of, column_of, site_at, neighbours, one, missing, grid_of, Placed}
 use Rattle.board.specs.Sums.{sum_plus, sum_up, sum_only, sum_const}
-use Rattle.board.specs.Places.{one_le, missing_le, neighbours_sym, neighbours_not, split, column_lt, row_at, column_at, on_grid, row_lt, Near, is_above, is_left, is_right, is_under, near, Joined, joined_above, joined_left, joined_right, joined_under, right_on, left_on}
+use Rattle.board.specs.Places.{one_le, missing_le, neighbours_sym, neighbours_not, split, row_at, column_at, on_grid, Near, is_above, is_left, is_right, is_under, near, Joined, joined_above, joined_left, joined_right, joined_under, right_on, left_on}
 
 module _ (rows columns : ℕ) where
   -- whether two sites are neighbours

@@ -1,13 +1,13 @@
 -- A link list is a board.
-use Rattle.std.specs.Prelude.{◌≡◌, ℕ, zero, suc, ◌+◌, ◌-◌, ◌<◌, ◌≤◌, Bool, true, false, cond, ◌⊎◌, List, length, Some, None, Option, ◌==◌, ◌≢◌, nat_lt, slice_index_or, slice_set, refl}
+use Rattle.std.specs.Prelude.{◌≡◌, ℕ, ◌+◌, ◌<◌, ◌≤◌, Bool, true, false, cond, List, length, Some, None, Option, ◌==◌, ◌≢◌, nat_lt, slice_index_or, slice_set, refl}
 use Rattle.std.proofs.Common.{sym, ◌∙◌, ap, inl, inr, arith}
 use Rattle.std.proofs.Math.Path.{fun_ext}
-use Rattle.std.proofs.lemmas.Bool.{cases_lt, cases_eq, cond-true, cond-false, lt-ltb, le-ltb, eq-eqb, ne_eqb, cases_Bool, ltb-true, ltb-false}
-use Rattle.board.specs.Shape.{Shape, Sound, Least, LeastFrom, NextIs, sum_below, all_links}
+use Rattle.std.proofs.lemmas.Bool.{cond-true, cond-false, eq-eqb, ne_eqb, ltb-true, ltb-false}
+use Rattle.board.specs.Shape.{Sound, Least, NextIs, all_links}
 use Rattle.board.specs.Walks.{m_le, s_le}
 use Rattle.board.specs.declared.link.Link.{Link}
-use Rattle.board.specs.Links.{no_link, between, to_drain, far, weight, Fit, fits, FitsAll, m_of, s_of, weights}
-use Rattle.board.specs.Tables.{fits_true, m_of_sym, m_of_not, s_of_off, table_total, grow_m, grow_s, m_of_more, m_of_up, s_of_more, s_of_up, m_of_none, s_of_none, between_far}
+use Rattle.board.specs.Links.{no_link, between, to_drain, far, Fit, FitsAll, m_of, s_of, weights}
+use Rattle.board.specs.Tables.{m_of_sym, m_of_not, s_of_off, table_total, grow_m, grow_s, m_of_more, m_of_up, s_of_more, s_of_up, m_of_none, s_of_none, between_far}
 use Rattle.board.specs.Lists.{listed, linked, nearer}
 use Rattle.board.specs.Adding.{shape_of}
 use Rattle.board.specs.declared.list.LinkList.{LinkList}

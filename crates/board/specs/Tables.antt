@@ -1,9 +1,9 @@
 -- Sums over a table of links.
-use Rattle.std.specs.Prelude.{◌≡◌, ℕ, zero, suc, ◌+◌, ◌-◌, ◌<◌, ◌≤◌, Bool, true, false, cond, not, ◌&&◌, ◌||◌, ◌⊎◌, List, length, get_or, Some, None, Option, ◌==◌, ◌≢◌, nat_eq, nat_lt, slice_index_or, slice_set, refl}
+use Rattle.std.specs.Prelude.{◌≡◌, ℕ, zero, suc, ◌+◌, ◌<◌, ◌≤◌, Bool, true, false, cond, not, ◌&&◌, ◌||◌, ◌⊎◌, List, length, get_or, Some, None, ◌==◌, ◌≢◌, nat_eq, nat_lt, slice_index_or, slice_set, refl}
 use Rattle.std.proofs.Common.{sym, ◌∙◌, inl, inr, add-one, arith, get_or-set_same, get_or-set_other}
 use Rattle.std.proofs.Math.Path.{ap}
 use Rattle.std.proofs.lemmas.Bool.{cases_lt, cases_eq, cases_Bool, and_left, and_right, cond-true, cond-false, and_parts, not-true, ltb-true, eqb-true, eqb-false, eq-eqb, ne_eqb, and_from, lt-ltb, not_from_false, or_cases, false≢true}
-use Rattle.board.specs.Shape.{Shape, sum_below}
+use Rattle.board.specs.Shape.{sum_below}
 use Rattle.board.specs.Sums.{sum_suc, sum_same, sum_none, sum_plus, sum_swap, sum_at, sum_more, sum_const, sum_term}
 use Rattle.board.specs.declared.link.End.{End}
 use Rattle.board.specs.declared.link.End.TheVariants.{Site, Drain}

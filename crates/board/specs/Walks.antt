@@ -1,8 +1,8 @@
 -- What follows from the laws of a board: its sums, its degrees, a walk over `next`.
-use Rattle.std.specs.Prelude.{◌≡◌, ℕ, zero, suc, ◌+◌, ◌-◌, ◌<◌, ◌≤◌, ◌⊎◌, refl}
-use Rattle.std.proofs.Common.{sym, ◌∙◌, ap, inl, inr, arith}
+use Rattle.std.specs.Prelude.{◌≡◌, ℕ, ◌+◌, ◌<◌, ◌≤◌, refl}
+use Rattle.std.proofs.Common.{◌∙◌, inl, inr, arith}
 use Rattle.std.proofs.lemmas.Bool.{cases_lt}
-use Rattle.board.specs.Shape.{Shape, Sound, Least, Follows, Degrees, sum_below, deg, row_total, all_links}
+use Rattle.board.specs.Shape.{Shape, Sound, Least, Follows, Degrees, sum_below, deg, row_total}
 use Rattle.board.specs.Sums.{sum_suc, sum_same, sum_plus, sum_skip, sum_none, sum_term, sum_more}
 
 pub deg_is : (b : Shape) (v : ℕ) → deg b v ≡ b.s v + row_total b v

@@ -1,5 +1,5 @@
 -- What comes to a site, summed over a walk of its neighbours.
-use Rattle.std.proofs.Common.{◌≡◌, ℕ, ◌+◌, ◌-◌, ◌*◌, ◌≤◌, sym, ap, ◌∙◌, mul-le-mul_right, mul-le-mul_left, zero-mul, arith}
+use Rattle.std.proofs.Common.{◌≡◌, ℕ, ◌+◌, ◌*◌, ◌≤◌, sym, ap, ◌∙◌, mul-le-mul_right, mul-le-mul_left, zero-mul, arith}
 use Rattle.board.specs.Shape.{Shape, Sound, Least, sum_below}
 use Rattle.board.specs.Sums.{sum_suc, sum_up, sum_skip, sum_more}
 use Rattle.board.specs.Walks.{deg_is, deg_le, linked_on}

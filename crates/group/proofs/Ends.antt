@@ -1,18 +1,18 @@
 -- Nothing waits any more: the numbers of burnt sites are the rounds.
-use Rattle.std.proofs.Common.{◌≡◌, ℕ, zero, suc, ◌+◌, ◌<◌, ◌≤◌, Bool, true, false, ◌⊎◌, ◌↔◌, List, [], ◌∷◌, length, sym, refl, ap, ◌∙◌, subst, inl, inr, arith}
-use Rattle.std.proofs.lemmas.Bool.{both_ways, cases_lt, cases_eq, ltb-true}
-use Rattle.board.specs.Shape.{Shape, Sound, sum_below}
+use Rattle.std.proofs.Common.{◌≡◌, ℕ, suc, ◌<◌, ◌≤◌, Bool, true, false, List, [], sym, ap, ◌∙◌, inl, inr, arith}
+use Rattle.std.proofs.lemmas.Bool.{cases_eq, ltb-true}
+use Rattle.board.specs.Shape.{Shape, Sound}
 use Rattle.firing.specs.Settling.{Same}
 use Rattle.firing.specs.TakingBack.{links_into, AsHigh}
 use Rattle.firing.specs.Burning.{unburnt, Rounds, AllBurn}
 use Rattle.firing.proofs.Sets.{into_le}
 use Rattle.firing.proofs.Rounds.{unburnt_never, unburnt_later, unburnt_cases, high_same, rounds_once}
 use Rattle.firing.proofs.Stands.{plain_heights}
-use Rattle.settling.specs.Searches.{mark, occurs, Queued}
+use Rattle.settling.specs.Searches.{mark, occurs}
 use Rattle.settling.specs.Reaching.{Says}
 use Rattle.group.specs.declared.burning.Burnt.{Burnt}
 use Rattle.firing.specs.Firing.{at}
-use Rattle.group.specs.Flames.{site_of, undone, Right, Burning, Cool, Steady, Cleared, Ended}
+use Rattle.group.specs.Flames.{site_of, undone, Steady, Cleared, Ended}
 use Rattle.group.proofs.Kindling.{unburnt_same}
 
 module _ (b : Shape) (ok : Sound b) (h : ℕ → ℕ) where

@@ -1,18 +1,15 @@
 -- A site begins to burn, the round goes on, a burnt site is visited: the rounds so far stay right.
-use Rattle.std.proofs.Common.{◌≡◌, ℕ, zero, suc, ◌+◌, ◌-◌, ◌*◌, ◌<◌, ◌≤◌, Bool, true, false, cond, ◌||◌, eqb, ltb, ◌⊎◌, List, [], ◌∷◌, ◌++◌, length, set, sym, refl, ap, ◌∙◌, subst, inl, inr, arith}
-use Rattle.std.proofs.lemmas.Bool.{both_ways, cases_lt, cases_eq, cases_Bool, cond-true, cond-false, eq-eqb, ne_eqb, lt-ltb, le-ltb, ltb-true}
-use Rattle.board.specs.Shape.{Shape, Sound, sum_below}
-use Rattle.board.specs.Sums.{sum_up, sum_const}
+use Rattle.std.proofs.Common.{◌≡◌, ℕ, suc, ◌+◌, ◌<◌, ◌≤◌, true, false, cond, ◌||◌, eqb, ltb, List, [], ◌∷◌, ◌++◌, length, set, sym, ap, ◌∙◌, subst, inl, inr, arith}
+use Rattle.std.proofs.lemmas.Bool.{both_ways, cases_lt, cases_eq, cond-true, cond-false, eq-eqb, ne_eqb, lt-ltb, le-ltb, ltb-true}
+use Rattle.board.specs.Shape.{Shape}
 use Rattle.firing.specs.TakingBack.{links_into}
 use Rattle.firing.specs.Burning.{unburnt}
 use Rattle.firing.proofs.Sets.{into_le, into_same}
-use Rattle.firing.proofs.Sums.{sum_point, sum_jump}
 use Rattle.firing.proofs.Rounds.{unburnt_never, unburnt_later, unburnt_by}
-use Rattle.settling.specs.Searches.{mark, occurs, Queued}
-use Rattle.settling.proofs.Queues.{hit, miss, mark_here, mark_there, queued_push, queued_pop, popped_on}
+use Rattle.settling.specs.Searches.{mark, occurs}
+use Rattle.settling.proofs.Queues.{hit, miss, mark_here, mark_there}
 use Rattle.group.specs.declared.burning.Burnt.{Burnt}
-use Rattle.firing.specs.Firing.{at}
-use Rattle.group.specs.Flames.{site_of, Noted, Late, Turns, undone, Right, Burning}
+use Rattle.group.specs.Flames.{site_of, Noted, Late, Turns, undone, Right}
 
 -- the rounds with one more
 abbrev pub put : (ℕ → ℕ) → ℕ → ℕ → ℕ → ℕ

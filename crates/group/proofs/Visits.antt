@@ -1,5 +1,5 @@
 -- The turns of burning.
-use Rattle.std.proofs.Common.{◌≡◌, ℕ, zero, suc, ◌+◌, ◌-◌, ◌*◌, ◌<◌, ◌≤◌, Bool, true, false, cond, ◌⊎◌, List, [], ◌∷◌, ◌++◌, length, set, sym, refl, ap, ◌∙◌, subst, inl, inr, arith}
+use Rattle.std.proofs.Common.{◌≡◌, ℕ, ◌+◌, ◌-◌, ◌<◌, ◌≤◌, Bool, cond, ◌⊎◌, List, [], ◌∷◌, ◌++◌, length, set, sym, refl, ap, ◌∙◌, subst, inl, inr, arith}
 use Rattle.std.proofs.lemmas.Bool.{cases_lt, cases_eq, cases_order, cond-true, cond-false}
 use Rattle.board.specs.Shape.{Shape, Sound, Least, sum_below}
 use Rattle.board.specs.Sums.{sum_up, sum_const}
@@ -9,7 +9,7 @@ use Rattle.firing.proofs.Sets.{into_same}
 use Rattle.firing.proofs.Sums.{sum_point, sum_jump}
 use Rattle.waiting.specs.declared.WaitingList.{WaitingList}
 use Rattle.waiting.specs.WaitingLists.{waits, room, Pushed}
-use Rattle.settling.specs.Searches.{mark, occurs, Queued}
+use Rattle.settling.specs.Searches.{mark}
 use Rattle.settling.proofs.Queues.{mark_here, mark_there, queued_none, queued_push, queued_pop, popped_on, pushed_new}
 use Rattle.group.specs.declared.burning.Burnt.{Burnt}
 use Rattle.firing.specs.Firing.{at}

@@ -1,13 +1,13 @@
 -- A merged board is a board.
-use Rattle.std.specs.Prelude.{◌≡◌, ℕ, zero, suc, ◌+◌, ◌-◌, ◌<◌, ◌≤◌, Bool, true, false, cond, not, ◌&&◌, ◌⊎◌, Some, None, Option, ◌==◌, nat_lt, refl}
+use Rattle.std.specs.Prelude.{◌≡◌, ℕ, ◌+◌, ◌-◌, ◌<◌, ◌≤◌, Bool, true, false, cond, not, ◌&&◌, ◌⊎◌, Some, None, Option, ◌==◌, nat_lt, refl}
 use Rattle.std.proofs.Common.{sym, ◌∙◌, inl, inr}
 use Rattle.std.proofs.Math.Path.{ap}
 use native.Mathlib.Omega.{arith}
-use Rattle.std.proofs.lemmas.Bool.{cases_lt, cases_eq, cond-true, cond-false, cases_Bool, and_parts, ltb-true, eqb-false, not-true, eq-eqb, ne_eqb, and_from, lt-ltb, not_from_false}
+use Rattle.std.proofs.lemmas.Bool.{cases_eq, cond-true, cond-false, and_parts, ltb-true, eqb-false, not-true, eq-eqb, ne_eqb, and_from, lt-ltb, not_from_false}
 use Rattle.board.specs.Shape.{Shape, Sound, sum_below, row_total, all_links}
-use Rattle.board.specs.Sums.{sum_suc, sum_add, sum_same, sum_none, sum_plus, sum_up, sum_at}
-use Rattle.board.specs.Walks.{off_left, m_le, s_le}
-use Rattle.layer.specs.Layers.{up, but}
+use Rattle.board.specs.Sums.{sum_same, sum_none, sum_plus, sum_up, sum_at}
+use Rattle.board.specs.Walks.{off_left}
+use Rattle.layer.specs.Layers.{up}
 use Rattle.layer.specs.Uplifts.{up_above, sum_drop}
 use Rattle.layer.specs.declared.merge.Pair.{Pair}
 use Rattle.layer.specs.Merges.{joined_m, joined_s, merged, merge_active, merge_at, merge_of, MergeOn}

@@ -1,8 +1,8 @@
 -- A site left out: the sites around it, a sum without it, a search that passes it over.
-use Rattle.std.specs.Prelude.{◌≡◌, ℕ, zero, suc, ◌+◌, ◌-◌, ◌<◌, ◌≤◌, Bool, true, false, cond, ◌⊎◌, Some, None, Option, ◌==◌, ◌≢◌, nat_lt, refl}
+use Rattle.std.specs.Prelude.{◌≡◌, ℕ, ◌+◌, ◌-◌, ◌<◌, ◌≤◌, ◌⊎◌, ◌==◌, ◌≢◌, nat_lt, refl}
 use Rattle.std.proofs.Common.{sym, ◌∙◌, ap, inl, inr, arith}
 use Rattle.std.proofs.lemmas.Bool.{cases_lt, cases_eq, cond-true, cond-false, lt-ltb, le-ltb, eq-eqb, ne_eqb}
-use Rattle.board.specs.Shape.{Least, LeastFrom, sum_below}
+use Rattle.board.specs.Shape.{Least, sum_below}
 use Rattle.layer.specs.Layers.{up, but}
 use Rattle.board.specs.Sums.{sum_suc, sum_add, sum_same}
 

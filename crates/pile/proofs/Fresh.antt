@@ -1,5 +1,5 @@
 -- A layer just made, seen from the board that it was laid on.
-use Rattle.std.proofs.Common.{◌≡◌, ℕ, ◌<◌, true, ◌⊎◌, List, [], ◌∷◌, None, Ok, Err, Option, Result, sym, refl, ap, ◌∙◌, subst, inl, inr, arith}
+use Rattle.std.proofs.Common.{◌≡◌, ℕ, true, List, None, Ok, Err, Option, Result, ap, ◌∙◌, subst, inl, inr, arith}
 use Rattle.refusal.specs.declared.Part.TheVariants as part
 use Rattle.refusal.specs.declared.Refusal.{Refusal}
 use Rattle.refusal.specs.Table.{Passed, First, Refused}
@@ -8,10 +8,10 @@ use Rattle.board.specs.declared.link.Link.{Link}
 use Rattle.board.specs.declared.link.End.{End}
 use Rattle.board.specs.declared.link.End.TheVariants.{Site, Drain}
 use Rattle.layer.specs.declared.merge.Pair.{Pair}
-use Rattle.board.specs.Links.{m_of, s_of, all_fit}
+use Rattle.board.specs.Links.{all_fit}
 use Rattle.board.specs.Grids.{grid_of, grid_checks}
-use Rattle.layer.specs.Earths.{earth_of, earthed, earth_checks, Earthing}
-use Rattle.layer.specs.Merges.{merge_of, merged, merge_checks, Merging}
+use Rattle.layer.specs.Earths.{earthed, earth_checks, Earthing}
+use Rattle.layer.specs.Merges.{merged, merge_checks, Merging}
 use Rattle.layer.specs.Cuts.{cut_of, cut_by, lessened, standing, cut_checks, Cutting}
 use Rattle.board.specs.Tables.{m_of_none, s_of_none, all_fit_none}
 use Rattle.pile.specs.Piles.{cut_once, first_cut_checks, Piled, OnGrid}

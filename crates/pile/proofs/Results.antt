@@ -1,5 +1,5 @@
 -- The worked results: the figures computed, and no refusal on the way.
-use Rattle.std.proofs.Common.{◌≡◌, ℕ, ◌+◌, ◌<◌, ◌≤◌, ◌⊎◌, List, [], ◌∷◌, None, sym, refl, ap, ◌∙◌, subst, inl, inr, arith}
+use Rattle.std.proofs.Common.{◌≡◌, ℕ, ◌+◌, ◌<◌, ◌≤◌, None, refl, ap, ◌∙◌, subst, inl, inr, arith}
 use Rattle.refusal.specs.declared.Part.TheVariants as part
 use Rattle.refusal.specs.declared.Refusal.{Refusal}
 use Rattle.refusal.specs.Table.{Refused}
@@ -14,7 +14,7 @@ use Rattle.board.specs.Links.{Fit, Misfit, weight}
 use Rattle.board.specs.Lists.{bare, linked}
 use Rattle.board.specs.Adding.{shape_of, add_checks}
 use Rattle.board.specs.Tables.{fit_quiet}
-use Rattle.pile.specs.Worked.{figures_of, MiddleEarthed, EndsMerged}
+use Rattle.pile.specs.Worked.{MiddleEarthed, EndsMerged}
 
 pub middle_earthed : MiddleEarthed
 unfolding earthed grid_of deg sum_below

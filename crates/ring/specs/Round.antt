@@ -3,8 +3,8 @@ use Rattle.std.specs.Prelude.{◌≡◌, ℕ, ◌+◌, ◌-◌, ◌<◌, ◌≤�
 use Rattle.std.proofs.Common.{sym, ◌∙◌, ap}
 use Rattle.std.proofs.Math.Logic.{inl, inr}
 use native.Mathlib.Omega.{arith}
-use Rattle.std.proofs.lemmas.Bool.{cases_lt, cases_eq, cases_Bool, cond-true, cond-false, and_from, and_left, and_right, or_from, or_left, or_right, or_cases, lt-ltb, le-ltb, eq-eqb, ne_eqb, eqb-true}
-use Rattle.board.specs.Shape.{Shape, Sound, row_total, sum_below}
+use Rattle.std.proofs.lemmas.Bool.{cases_lt, cases_eq, cond-true, cond-false, and_from, and_left, and_right, or_from, or_left, or_right, lt-ltb, le-ltb, eq-eqb, ne_eqb}
+use Rattle.board.specs.Shape.{Sound, row_total}
 use Rattle.board.specs.Sums.{sum_up, sum_plus, sum_only, sum_const}
 use Rattle.ring.specs.Rings.{after, ring_of, Sides}
 

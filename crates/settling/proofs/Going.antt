@@ -1,21 +1,19 @@
 -- What settling keeps from one visit to the next, and what it ends with.
-use Rattle.std.proofs.Common.{◌≡◌, ℕ, zero, suc, ◌+◌, ◌-◌, ◌*◌, ◌<◌, ◌≤◌, Bool, true, false, ◌≢◌, ◌⊎◌, List, [], ◌∷◌, length, set, sym, refl, ap, ◌∙◌, subst, inl, inr, mul-le-mul_right, zero-mul, arith}
+use Rattle.std.proofs.Common.{◌≡◌, ℕ, ◌+◌, ◌-◌, ◌*◌, ◌<◌, ◌≤◌, true, false, List, [], ◌∷◌, length, set, sym, ap, ◌∙◌, subst, inl, inr, mul-le-mul_right, zero-mul, arith}
 use native.Mathlib.Decide.{ℕ_discrete}
 use Rattle.std.proofs.lemmas.List.{get_or_past}
 use Rattle.std.proofs.lemmas.Bool.{cases_lt, true≢false}
 use Rattle.board.specs.Shape.{Shape, Sound, deg, sum_below}
 use Rattle.board.specs.Sums.{sum_term, sum_up}
-use Rattle.firing.specs.Firing.{fires_from, CanFire, Still, Run, Lowest}
-use Rattle.firing.specs.Settling.{inflow, drained, Settles, Follows, AtMost, Least, Settled}
-use Rattle.firing.specs.Reaching.{AllLinked}
+use Rattle.firing.specs.Firing.{fires_from, CanFire, Still, Lowest}
+use Rattle.firing.specs.Settling.{inflow, drained, Settles, AtMost}
 use Rattle.firing.proofs.Sums.{sum_jump}
 use Rattle.firing.proofs.Action.{inflow_le, run_follows, least_action, follows_conserves, run_least}
 use Rattle.settling.specs.declared.settle.Outcome.{Outcome}
 use Rattle.firing.specs.Firing.{at}
-use Rattle.settling.specs.Firings.{FiresTimes}
 use Rattle.settling.specs.Marks.{occurs, Queued, Covered, WaitRound, Visited}
-use Rattle.settling.specs.Settlings.{Ran, Noted, Tallied, Ended, Counted}
-use Rattle.settling.proofs.Marking.{queued_length, queued_pop, popped_on, covered_pop, covered_fire}
+use Rattle.settling.specs.Settlings.{Ran, Noted, Tallied, Counted}
+use Rattle.settling.proofs.Marking.{queued_pop, popped_on, covered_pop, covered_fire}
 use Rattle.settling.proofs.Visits.{tallied_more}
 
 -- what holds between two visits
@@ -34,9 +32,9 @@ module _ {b : Shape} (sound : Sound b) where
   ]
 
 -- no count grows by more than all firings
-pub tallied_low : (b : Shape) (c h : ℕ → ℕ) (cs cs' : List ℕ) (k v most : ℕ) → Tallied b c h cs cs' k → ((u : ℕ) → at cs u ≤ most) → v < b.sites → at cs' v ≤ most + k
-tallied_low b c h cs cs' k v most t low on = elim (cases_lt v (length cs)) [
-  | inl l ↦ omega (arith, t.grown v on l, low v, t.ran.total, sum_term b.sites v t.ran.counts on)
+pub tallied_low : (b : Shape) (c h : ℕ → ℕ) (cs cs' : List ℕ) (k v : ℕ) → Tallied b c h cs cs' k → v < b.sites → at cs' v ≤ at cs v + k
+tallied_low b c h cs cs' k v t on = elim (cases_lt v (length cs)) [
+  | inl l ↦ omega (arith, t.grown v on l, t.ran.total, sum_term b.sites v t.ran.counts on)
   | inr l ↦ omega (arith, get_or_past cs' v 0 (omega (arith, t.long)))
 ]
 

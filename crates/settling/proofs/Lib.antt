@@ -5,4 +5,4 @@ pub mod Visits
 pub mod Going
 pub mod Queues
 pub mod Searching
-pub mod Counting
+pub mod CountingRows

@@ -1,5 +1,5 @@
 -- Sites that can fire, by the numbers that the code compares.
-use Rattle.std.proofs.Common.{◌≡◌, ℕ, ◌<◌, ◌≤◌, Bool, true, false, List, length, MatchBool, sym, subst, arith}
+use Rattle.std.proofs.Common.{◌≡◌, ℕ, ◌≤◌, Bool, true, false, List, length, MatchBool, sym, subst, arith}
 use Rattle.std.proofs.lemmas.List.{get_or_past}
 use Rattle.board.specs.Shape.{Shape, deg}
 use Rattle.firing.specs.Firing.{fires_from, CanFire}

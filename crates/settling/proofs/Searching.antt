@@ -1,14 +1,13 @@
 -- The turns of a search.
-use Rattle.std.proofs.Common.{◌≡◌, ℕ, zero, suc, ◌+◌, ◌-◌, ◌*◌, ◌<◌, ◌≤◌, ◌⊎◌, List, [], ◌∷◌, ◌++◌, length, get_or, set, sym, refl, ap, ◌∙◌, subst, inl, inr, arith}
+use Rattle.std.proofs.Common.{◌≡◌, ℕ, ◌+◌, ◌-◌, ◌<◌, ◌≤◌, List, [], ◌∷◌, length, set, sym, refl, ap, ◌∙◌, subst, inl, inr, arith}
 use Rattle.std.proofs.lemmas.Bool.{cases_lt, cases_eq, cases_order}
 use Rattle.board.specs.Shape.{Shape, Sound, Least, sum_below}
 use Rattle.board.specs.Sums.{sum_const}
-use Rattle.board.specs.Walks.{linked_on, off_left}
-use Rattle.firing.specs.Firing.{Lowest}
-use Rattle.firing.specs.Reaching.{Reaches, out, along, AllReach}
+use Rattle.board.specs.Walks.{linked_on}
+use Rattle.firing.specs.Reaching.{Reaches, out, along}
 use Rattle.firing.proofs.Sums.{sum_jump}
 use Rattle.settling.specs.Searches.{mark, occurs, Queued, Offered, Grown, Found, Searching, Searched}
-use Rattle.settling.proofs.Queues.{mark_here, mark_there, queued_none, queued_pop, popped_on}
+use Rattle.settling.proofs.Queues.{mark_here, mark_there, queued_none, popped_on}
 
 module _ {T : Type 0} (site : T → ℕ) (b : Shape) where
   -- of the sites below i, those that are linked to the drain are found, and no others

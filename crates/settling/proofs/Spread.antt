@@ -1,5 +1,5 @@
 -- What a walk over `next` has added to the heights.
-use Rattle.std.proofs.Common.{◌≡◌, ℕ, zero, suc, ◌+◌, ◌-◌, ◌*◌, ◌<◌, ◌≤◌, true, ◌≢◌, ◌⊎◌, List, length, get_or, set, sym, refl, ap, ◌∙◌, inl, inr, mul-le-mul_right, zero-mul, mul-one, arith, get_or-set_other, get_or-set_same}
+use Rattle.std.proofs.Common.{◌≡◌, ℕ, ◌+◌, ◌*◌, ◌<◌, ◌≤◌, true, List, length, set, sym, refl, ap, ◌∙◌, inl, inr, mul-le-mul_right, zero-mul, mul-one, arith, get_or-set_other, get_or-set_same}
 use Rattle.std.proofs.lemmas.Bool.{cases_lt, cases_eq, cases_order}
 use Rattle.board.specs.Shape.{Shape, Sound, Least, deg}
 use Rattle.std.proofs.lemmas.List.{get_or_past}
@@ -7,7 +7,7 @@ use Rattle.board.specs.Walks.{linked_on, m_deg}
 use Rattle.board.specs.Sums.{sum_term}
 use Rattle.firing.specs.Firing.{CanFire, Fires}
 use Rattle.firing.specs.Firing.{at}
-use Rattle.settling.specs.Firings.{grains, FiresTimes, Near, LightNear}
+use Rattle.settling.specs.Firings.{grains, FiresTimes, LightNear}
 
 -- the heights xs after v has sent its grains, k times its links, to each site below j
 pub record Spread (b : Shape) (v k j : ℕ) (xs ys : List ℕ) : Type 0 where

@@ -1,16 +1,16 @@
 -- One visit of a site: how often it fires, and the run that its firings are.
-use Rattle.std.proofs.Common.{◌≡◌, ℕ, zero, suc, ◌+◌, ◌-◌, ◌*◌, ◌/◌, ◌<◌, ◌≤◌, min, cond, eqb, ◌≢◌, ◌⊎◌, List, sym, refl, ap, ◌∙◌, subst, inl, inr, div-lt_iff_lt-mul, mul-le-mul_left, mul-zero, mul-one, mul-suc, mul-add, arith, eq-eqb, ne_eqb}
+use Rattle.std.proofs.Common.{◌≡◌, ℕ, zero, suc, ◌+◌, ◌-◌, ◌*◌, ◌/◌, ◌<◌, ◌≤◌, min, cond, eqb, ◌≢◌, List, sym, refl, ap, ◌∙◌, subst, inl, inr, mul-le-mul_left, mul-zero, mul-one, mul-suc, mul-add, arith, eq-eqb, ne_eqb}
 use native.Mathlib.Nat.{mul-div-le, lt-mul-div-succ, min-le_left, min-le_right, min-eq_left, min-eq_right}
 use native.Mathlib.Decide.{ℕ_discrete}
 use Rattle.std.proofs.lemmas.Bool.{cases_lt, cond-true, cond-false}
-use Rattle.board.specs.Shape.{Shape, Sound, deg, sum_below}
-use Rattle.firing.specs.Firing.{CanFire, Fires, Counts, Run, begin, fire}
+use Rattle.board.specs.Shape.{Shape, deg}
+use Rattle.firing.specs.Firing.{Run, begin, fire}
 use Rattle.board.specs.Sums.{sum_none}
 use Rattle.firing.proofs.Sums.{sum_point}
 use Rattle.firing.specs.Firing.{at}
 use Rattle.settling.specs.Firings.{Enough, FiresTimes}
 use Rattle.settling.specs.Marks.{Visited}
-use Rattle.settling.specs.Settlings.{Ran, Noted, Tallied}
+use Rattle.settling.specs.Settlings.{Noted, Tallied}
 use Rattle.settling.proofs.Ready.{enough_can, can_enough}
 
 -- as often as the height allows

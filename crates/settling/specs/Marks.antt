@@ -1,5 +1,5 @@
 -- Sites that wait and their marks: what settling keeps between two visits.
-use Rattle.std.specs.Prelude.{◌≡◌, ℕ, ◌+◌, ◌<◌, ◌≤◌, Bool, cond, List, [], ◌∷◌, ◌==◌}
+use Rattle.std.specs.Prelude.{◌≡◌, ℕ, ◌+◌, ◌<◌, ◌≤◌, cond, List, [], ◌∷◌, ◌==◌}
 use Rattle.board.specs.Shape.{Shape, deg}
 use Rattle.firing.specs.Firing.{CanFire}
 use Rattle.firing.specs.Firing.{at}

@@ -1,6 +1,7 @@
 // Settling: firing, reach and settling, over any board and lent memory.
 #![tactic(auto)]
 
+pub mod counting;
 mod entry;
 pub mod fire;
 pub mod near;

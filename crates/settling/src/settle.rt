@@ -1,12 +1,12 @@
 // Settling: legal firings from a waiting list, until no site can fire or a budget is spent.
-ghost use Rattle.std.specs.Prelude.{◌≡◌, ℕ, ◌+◌, ◌<◌, ◌≤◌, List, [], length};
+ghost use Rattle.std.specs.Prelude.{◌≡◌, ℕ, ◌+◌, ◌^◌, ◌<◌, ◌≤◌, List, [], length};
 ghost use Rattle.refusal.specs.Table.{InOrder, rows};
 ghost use Rattle.board.specs.Shape.{sum_below};
 ghost use Rattle.firing.specs.Firing.{Still};
 ghost use Rattle.waiting.specs.WaitingLists.{waits, room};
 ghost use Rattle.firing.specs.Firing.{at};
 ghost use Rattle.settling.specs.Marks.{Queued, Covered, Waits, WaitRound, Visited};
-ghost use Rattle.settling.specs.Settlings.{Noted, Tallied, Counted, Fit, Checked, Low, SettledBy, SettledCounting, settle_checks, count_checks};
+ghost use Rattle.settling.specs.Settlings.{Noted, Tallied, Ended, Counted, Fit, Checked, SettledBy, settle_checks};
 
 use crate::fire::{all_grains, can_fire, fire_times, is_enough, lowest_ready};
 use board::{Board, degree};
@@ -67,7 +67,7 @@ fn visit<B: Board>(board: &B, heights: &mut [u64], v: usize, limit: u64) -> u64
 
 // Counts so many more firings of `v`, where counts are kept: an empty list keeps none.
 fn note(counts: &mut [u64], v: usize, times: u64)
-    requires { at counts.old v + times ≤ 1001000000000 }
+    requires { at counts.old v + times < 2 ^ 64 }
     ensures { Noted v times counts.old counts.new }
 {
     if v >= counts.len() {
@@ -89,8 +89,7 @@ fn work_off<B: Board>(
     requires bytes { (B.Board.shape board.now).sites ≤ length marks.old }
     requires room { (B.Board.shape board.now).sites ≤ room list.old }
     requires low { sum_below (B.Board.shape board.now).sites (at heights.old) ≤ 1000000 }
-    requires few { (u : ℕ) → at counts.old u ≤ 1000000000000 }
-    requires most { limit ≤ 1000000000 }
+    requires few { (u : ℕ) → at counts.old u + limit < 2 ^ 64 }
     requires queued { Queued (B.Board.shape board.now).sites (waits list.old) marks.old }
     requires covered { Covered (B.Board.shape board.now) (at heights.old) marks.old }
     ensures tallied { Tallied (B.Board.shape board.now) (at heights.old) (at heights.new) counts.old counts.new result }
@@ -129,7 +128,7 @@ fn scan<B: Board>(board: &B, heights: &[u64], list: &mut WaitingList<usize>, mar
 }
 
 // Refuses what cannot be settled, by the first row that says so.
-fn check<B: Board>(
+pub(crate) fn check<B: Board>(
     board: &B,
     heights: &[u64],
     slots: usize,
@@ -164,8 +163,8 @@ fn check<B: Board>(
     }
 }
 
-// Settles heights that were checked.
-fn settle_fit<B: Board>(
+// Settles heights that were checked, and adds each site's firings to its count.
+pub(crate) fn settle_counted<B: Board>(
     board: &B,
     heights: &mut [u64],
     counts: &mut [u64],
@@ -174,8 +173,7 @@ fn settle_fit<B: Board>(
     budget: u64,
 ) -> Outcome
     requires fit { Fit (B.Board.shape board.now).sites heights.old (length waiting.old) (length marks.old) }
-    requires few { (u : ℕ) → at counts.old u ≤ 1000000000000 }
-    requires most { budget ≤ 1000000000 }
+    requires few { (u : ℕ) → at counts.old u + budget < 2 ^ 64 }
     ensures { Counted (B.Board.shape board.now) (at heights.old) (at heights.new) budget result counts.old counts.new }
 {
     let mut list = WaitingList::new(waiting);
@@ -193,6 +191,21 @@ fn settle_fit<B: Board>(
     }
 }
 
+// Settles heights that were checked.
+fn settle_fit<B: Board>(
+    board: &B,
+    heights: &mut [u64],
+    waiting: &mut [usize],
+    marks: &mut [u8],
+    budget: u64,
+) -> Outcome
+    requires { Fit (B.Board.shape board.now).sites heights.old (length waiting.old) (length marks.old) }
+    ensures { Ended (B.Board.shape board.now) (at heights.old) (at heights.new) budget result }
+{
+    let mut counts = [0u64; 0];
+    settle_counted(board, heights, &mut counts, waiting, marks, budget)
+}
+
 // Settles `heights`: legal firings only, until no site can fire or `budget` of them are made. The waiting list and the
 // marks are for work, and read as they may afterwards.
 pub fn settle<B: Board>(
@@ -206,59 +219,7 @@ pub fn settle<B: Board>(
     ensures { SettledBy (B.Board.shape board.now) heights.old heights.new (length waiting.old) (length marks.old) budget part result }
 {
     check(board, heights, waiting.len(), marks.len(), budget, part)?;
-    let mut counts = [0u64; 0];
-    Ok(settle_fit(board, heights, &mut counts, waiting, marks, budget))
-}
-
-// Whether no count is above 1,000,000,000,000.
-fn all_low(counts: &[u64]) -> bool
-    ensures { Low counts.now result }
-{
-    for i in 0..counts.len() {
-        if counts[i] > 1_000_000_000_000 {
-            return false;
-        }
-    }
-    true
-}
-
-// Settles `heights` as `settle` does, and adds each site's firings to its count.
-pub fn settle_counting<B: Board>(
-    board: &B,
-    heights: &mut [u64],
-    counts: &mut [u64],
-    waiting: &mut [usize],
-    marks: &mut [u8],
-    budget: u64,
-    part: Part,
-) -> Result<Outcome, Refusal>
-    ensures { SettledCounting (B.Board.shape board.now) heights.old heights.new counts.old counts.new (length waiting.old) (length marks.old) budget part result }
-{
-    if counts.len() != board.count() {
-        return Err(Refusal {
-            row: Row::Memory,
-            place: 0,
-            part,
-        });
-    }
-    if let Err(e) = check(board, heights, waiting.len(), marks.len(), budget, part) {
-        return Err(e);
-    }
-    if !all_low(counts) {
-        return Err(Refusal {
-            row: Row::Limit,
-            place: 0,
-            part,
-        });
-    }
-    Ok(settle_fit(board, heights, counts, waiting, marks, budget))
-}
-
-// The rows by which `settle_counting` refuses, in the order of its checks.
-pub fn settle_counting_rows() -> [Row; 2]
-    ensures { (n : ℕ) (xs cs : List ℕ) (slots bytes budget : ℕ) → (result ≡ rows (count_checks n xs cs slots bytes budget)) × InOrder (count_checks n xs cs slots bytes budget) }
-{
-    [Row::Memory, Row::Limit]
+    Ok(settle_fit(board, heights, waiting, marks, budget))
 }
 
 // The rows by which `settle` refuses, in the order of its checks.

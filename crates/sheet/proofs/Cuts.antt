@@ -1,9 +1,9 @@
 -- Laws of parts: what stands before the first stop is the first part.
-use Rattle.std.proofs.Common.{◌≡◌, ℕ, suc, ◌+◌, ◌-◌, ◌<◌, ◌≤◌, Bool, true, false, cond, eqb, leb, ◌⊎◌, List, [], ◌∷◌, ◌++◌, length, get_or, take, drop, sym, refl, ap, ◌∙◌, inl, inr, arith, take-append-drop, rules}
+use Rattle.std.proofs.Common.{◌≡◌, ℕ, suc, ◌+◌, ◌-◌, ◌<◌, ◌≤◌, true, false, eqb, leb, List, [], ◌∷◌, ◌++◌, length, get_or, drop, sym, refl, ap, ◌∙◌, inl, inr, arith, take-append-drop}
 use Rattle.std.specs.List.{between}
 use Rattle.std.proofs.lemmas.List.{drop-drop, drop_more, get_or-take, get_or-drop, length-take-le, length-drop, take_all, drop_all}
 use Rattle.std.proofs.lemmas.Bool.{eq-eqb, ne_eqb, le-leb, lt-leb, cond-true, cond-false, cond_both, cases_lt}
-use Rattle.sheet.specs.Parts.{Raw, parts, fronted, ahead, unended, marked, lines}
+use Rattle.sheet.specs.Parts.{parts, fronted, ahead, unended, marked, lines}
 
 -- no stop in a list
 abbrev pub Free : ℕ → List ℕ → Type 0

@@ -1,9 +1,9 @@
 -- Words that fail their places, one place after another.
-use Rattle.std.proofs.Common.{◌≡◌, ℕ, ◌+◌, ◌≤◌, leb, List, [], ◌∷◌, length, drop, sym, refl, ap, ◌∙◌, subst, inl, inr}
+use Rattle.std.proofs.Common.{ℕ, ◌≤◌, leb, List, [], ◌∷◌, length, drop, sym, refl, ◌∙◌, subst, inr}
 use Rattle.std.proofs.lemmas.Bool.{cond-true, le-leb}
-use Rattle.sheet.specs.Parts.{parts, ahead}
+use Rattle.sheet.specs.Parts.{ahead}
 use Rattle.sheet.specs.declared.reader.Reader.{Reader}
-use Rattle.sheet.specs.Letters.{Slot, number, Fits, Misfit, amount}
+use Rattle.sheet.specs.Letters.{Slot, number, Misfit, amount}
 use Rattle.sheet.specs.Reading.{words_ahead, Took}
 use Rattle.sheet.proofs.Cuts.{parts_some}
 

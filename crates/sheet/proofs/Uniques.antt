@@ -1,9 +1,9 @@
 -- A line says one thing, and is refused in one way.
-use Rattle.std.proofs.Common.{◌≡◌, ℕ, zero, suc, ◌+◌, ◌<◌, ◌≤◌, ◌⊎◌, List, [], ◌∷◌, length, get_or, Some, None, Option, sym, refl, ap, ◌∙◌, subst, inl, inr, arith}
+use Rattle.std.proofs.Common.{◌≡◌, ℕ, ◌+◌, List, [], ◌∷◌, length, get_or, Some, None, Option, sym, refl, ap, ◌∙◌, subst, inl, inr, arith}
 use Rattle.std.proofs.lemmas.Bool.{cases_order}
 use Rattle.refusal.specs.declared.Refusal.{Refusal}
 use Rattle.refusal.specs.declared.Part.TheVariants.{Sheet}
-use Rattle.refusal.specs.Table.{Passed, First, Refused}
+use Rattle.refusal.specs.Table.{Passed, Refused}
 use Rattle.refusal.proofs.Answers.{not_both, one_answer, Single}
 use Rattle.sheet.specs.declared.Kind.{Kind}
 use Rattle.sheet.specs.declared.Kind.TheVariants.{Grid, Sites, Link, Earth, Merge, Cut, Height, Ceiling, Drop, Fire, Run, Wave, Close, Shelve, Resume}
@@ -12,9 +12,9 @@ use Rattle.board.specs.declared.link.End.TheVariants.{Site, Drain}
 use Rattle.sheet.specs.declared.Line.{Line}
 use Rattle.sheet.specs.declared.Line.TheVariants as line
 use Rattle.sheet.specs.declared.LineRefusal.{LineRefusal}
-use Rattle.sheet.specs.Parts.{Raw, Number, lines}
-use Rattle.sheet.specs.Letters.{letter, Head, Slot, number, far, slots, Fits, Misfit, Value, amount, drain, drain_word, Says, Say, kind, said}
-use Rattle.sheet.specs.Form.{BadByte, BadLetter, BadWord, line_checks, Fine, AllFine, FirstBad, Good, Faulty}
+use Rattle.sheet.specs.Parts.{Raw, lines}
+use Rattle.sheet.specs.Letters.{Slot, number, far, slots, Fits, Misfit, Value, amount, drain, Says, Say, kind, said}
+use Rattle.sheet.specs.Form.{BadByte, BadWord, line_checks, Fine, AllFine, FirstBad}
 use Rattle.sheet.specs.Laws.{NotBoth, OneReading, OneRefusal, RowsInOrder}
 use Rattle.sheet.proofs.Heads.{head_one}
 use Rattle.sheet.proofs.Verdicts.{silent_byte, silent_letter}

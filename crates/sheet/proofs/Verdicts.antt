@@ -1,18 +1,15 @@
 -- A line's rows in their order, and a sheet's verdict line by line.
-use Rattle.std.proofs.Common.{◌≡◌, ℕ, ◌+◌, ◌<◌, ◌≤◌, Bool, true, false, ◌⊎◌, List, [], ◌∷◌, ◌++◌, length, get_or, drop, Some, None, Ok, Err, Option, Result, sym, refl, ap, ◌∙◌, subst, inl, inr, append_assoc, arith}
+use Rattle.std.proofs.Common.{◌≡◌, ℕ, ◌+◌, ◌≤◌, Bool, true, false, List, [], ◌∷◌, ◌++◌, length, drop, Some, None, Ok, Err, Option, Result, sym, refl, ap, ◌∙◌, subst, inl, inr, append_assoc, arith}
 use Rattle.std.proofs.lemmas.Bool.{cases_lt, both_ways}
 use Rattle.std.proofs.lemmas.List.{append-nil, length_push}
 use Rattle.refusal.specs.declared.Refusal.{Refusal}
-use Rattle.refusal.specs.declared.Row.TheVariants.{Letter, Word}
-use Rattle.refusal.specs.declared.Part.TheVariants.{Sheet}
-use Rattle.refusal.specs.Table.{Refused}
 use Rattle.sheet.specs.declared.Kind.{Kind}
 use Rattle.sheet.specs.declared.Line.{Line}
 use Rattle.sheet.specs.declared.LineRefusal.{LineRefusal}
 use Rattle.sheet.specs.declared.reader.Reader.{Reader}
 use Rattle.sheet.specs.Parts.{Raw, lines}
-use Rattle.sheet.specs.Letters.{Head, May, slots, Misfit, kind}
-use Rattle.sheet.specs.Form.{PlainTo, BadByte, BadLetter, line_checks, Capped, AllFine, FirstBad}
+use Rattle.sheet.specs.Letters.{Head, May, kind}
+use Rattle.sheet.specs.Form.{PlainTo, BadByte, BadLetter, AllFine, FirstBad}
 use Rattle.sheet.specs.Reading.{lines_ahead, LineSaid, NextSaid, AllPlain, WordsSaid, LetterFirst, Verdict}
 use Rattle.sheet.proofs.Heads.{head_one}
 

@@ -1,5 +1,5 @@
 -- A sheet's bytes taken apart: parts between two stops, lines, numbers.
-use Rattle.std.specs.Prelude.{◌≡◌, ℕ, ◌+◌, ◌<◌, ◌≤◌, Bool, true, false, cond, List, [], ◌∷◌, length, drop, ◌==◌, nat_le, slice_index, slice_index_or}
+use Rattle.std.specs.Prelude.{◌≡◌, ℕ, ◌<◌, ◌≤◌, Bool, true, false, cond, List, [], ◌∷◌, length, drop, ◌==◌, nat_le, slice_index, slice_index_or}
 
 -- x in front of the first part
 unfoldable pub fronted : ℕ → List (List ℕ) → List (List ℕ)

@@ -1,5 +1,5 @@
 -- What a push and a pop leave waiting.
-use Rattle.std.proofs.Common.{◌≡◌, ℕ, zero, suc, ◌+◌, ◌-◌, ◌<◌, ◌≤◌, eqb, List, [], ◌∷◌, ◌++◌, length, get_or, take, drop, set, MatchBool, sym, refl, ap, ◌∙◌, subst, inl, inr, arith, length-drop, length-set, eq-eqb, ne_eqb}
+use Rattle.std.proofs.Common.{◌≡◌, ℕ, zero, suc, ◌+◌, ◌-◌, ◌<◌, ◌≤◌, eqb, List, [], ◌∷◌, ◌++◌, length, get_or, take, drop, set, MatchBool, sym, ap, ◌∙◌, subst, inl, inr, arith, length-drop, length-set, eq-eqb, ne_eqb}
 use Rattle.std.proofs.lemmas.List.{take-append-le, length-take-le, drop-append-le, drop-set-add, drop-set-lt, take_more_set, set-append_right, drop_more, drop_at, get_or_append_left}
 use Rattle.std.proofs.lemmas.Bool.{cases_eq}
 use Rattle.waiting.specs.Slots.{waiting}

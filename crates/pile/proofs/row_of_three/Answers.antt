@@ -1,5 +1,5 @@
 -- What is left to show of `row_of_three`.
-use Rattle.std.proofs.Common.{◌≡◌, ap, ◌∙◌, arith}
+use Rattle.std.proofs.Common.{ap, ◌∙◌, arith}
 use Rattle.board.specs.declared.link.End.TheVariants.{Site, Drain}
 use Rattle.board.specs.Shape.{Shape}
 use Rattle.board.specs.Lists.{linked}

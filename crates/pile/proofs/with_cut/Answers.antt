@@ -1,5 +1,5 @@
 -- What is left to show of `with_cut`.
-use Rattle.std.proofs.Common.{◌≡◌, Ok, Err, ap, ◌∙◌}
+use Rattle.std.proofs.Common.{Ok, Err, ap, ◌∙◌}
 use Rattle.layer.specs.Cuts.{cut_of}
 use Rattle.pile.proofs.Fresh.{fresh_cut, first_refused, first_passed, first_cut}
 use Rattle.pile.proofs.with_cut.Goals as goal

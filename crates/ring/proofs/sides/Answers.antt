@@ -1,5 +1,5 @@
 -- What is left to show of `sides`.
-use Rattle.std.proofs.Common.{◌≡◌, ℕ, ◌-◌, sym, subst, arith}
+use Rattle.std.proofs.Common.{◌≡◌, ℕ, ◌-◌, sym, subst}
 use Rattle.ring.specs.Rings.{Sides}
 use Rattle.ring.specs.Round.{sides_first, sides_last, sides_between}
 use Rattle.ring.proofs.sides.Goals as goal

@@ -23,7 +23,18 @@ invariant_of-result g c =
     let total : sum_below m.heights.len (at (vec_items m.heights)) ≡ c.in-Some.grains = ap (λ n. sum_below n (at (vec_items m.heights))) m.heights.ok.0 ∙ ap grains (sym c.deref.ensures.value) ∙ sym weighs.0 in
     let counts = cleared c.clear.new.xs (vec_items (with_items m.counts c.clear.new.xs)) (with_items_is m.counts c.clear.new.xs (omega (arith, c.clear.auto.xs, ap length c.deref_mut.ensures.value, m.counts.ok.0))) c.clear.ensures in
     let opened = cleared c.clear-2.new.xs (vec_items (with_items m.opened c.clear-2.new.xs)) (with_items_is m.opened c.clear-2.new.xs (omega (arith, c.clear-2.auto.xs, ap length c.deref_mut-2.ensures.value, m.opened.ok.0))) c.clear-2.ensures in
-    (omega arith, (omega arith, (omega (arith, total), (weighs.1, (sum_none m.heights.len (at (vec_items (with_items m.counts c.clear.new.xs))) (λ u l. counts u), (omega arith, (omega arith, (λ u. omega (arith, opened u), (omega arith, (omega arith, tt))))))))))
+    record {
+      counts_sized = omega arith;
+      opened_sized = omega arith;
+      conserved = omega (arith, total);
+      light = weighs.1;
+      counted = sum_none m.heights.len (at (vec_items (with_items m.counts c.clear.new.xs))) (λ u l. counts u);
+      under = omega arith;
+      most = omega arith;
+      grown = λ u. omega (arith, opened u);
+      earlier = omega arith;
+      numbered = omega arith;
+    }
 
 pub returns : goal.returns
 returns g c =

@@ -30,7 +30,18 @@ invariant_of-self-3 g c =
     let read = get_or_read (vec_items b.heights) c.args.drop.site c.index_mut.result.now on c.index_mut.ensures.value 0 in
     let more = set_total b.heights.len (vec_items b.heights) c.args.drop.site (c.index_mut.result.now + c.args.drop.grains) c.args.drop.grains (omega arith) (omega (arith, b.heights.ok.0)) (ap (λ k. k + c.args.drop.grains) read) in
     let copied = c.copy_from_slice.ensures.items ∙ c.deref.ensures.value in
-    (b.counts_sized, (omega (arith, c.copy_from_slice.ensures.len, b.opened_sized), (omega (arith, more, b.conserved), (omega arith, (b.counted, (b.under, (b.most, (λ u. omega (arith, ap (λ xs. at xs u) copied), (omega arith, (omega (arith, b.numbered), tt))))))))))
+    record {
+      counts_sized = b.counts_sized;
+      opened_sized = omega (arith, c.copy_from_slice.ensures.len, b.opened_sized);
+      conserved = omega (arith, more, b.conserved);
+      light = omega arith;
+      counted = b.counted;
+      under = b.under;
+      most = b.most;
+      grown = λ u. omega (arith, ap (λ xs. at xs u) copied);
+      earlier = omega arith;
+      numbered = omega (arith, b.numbered);
+    }
 
 pub returns : goal.returns
 returns g c =

@@ -51,10 +51,10 @@ loop-v-preserved g c =
     elim c.if-bytes-v-eq1.branch [
       | then-bytes-v-eq1 e ↦
           waving_at s h cs w (v + 1) e.fire_counted-drained.new.heights c.if-bytes-v-eq1.heights (set ys v (at ys v + 1)) c.if-bytes-v-eq1.counts (d + s.s v) c.if-bytes-v-eq1.drained
-          e.heights-is (e.counts-is ∙ e.fire_counted-drained.ensures.counts) (omega (arith, e.drained_is, e.fire_counted-drained.ensures.drains))
+          e.heights-is (e.counts-is ∙ e.fire_counted-drained.ensures.counts) (omega (arith, e.drained-is, e.fire_counted-drained.ensures.drains))
           (wave_fires s h cs w (g.met.B.Board.sound c.args.board.now) v xs e.fire_counted-drained.new.heights ys d c.requires.counted e.if-bytes-v-eq1.true c.loop-v.invariant e.fire_counted-drained.ensures.fires)
       | else-bytes-v-eq1 e ↦
-          waving_at s h cs w (v + 1) xs c.if-bytes-v-eq1.heights ys c.if-bytes-v-eq1.counts d c.if-bytes-v-eq1.drained e.heights-is e.counts-is e.drained_is
+          waving_at s h cs w (v + 1) xs c.if-bytes-v-eq1.heights ys c.if-bytes-v-eq1.counts d c.if-bytes-v-eq1.drained e.heights-is e.counts-is e.drained-is
           (wave_skips s h cs w v xs ys d (ready_none s h v (w v) (c.requires.ready v on) e.if-bytes-v-eq1.false) c.loop-v.invariant)
     ]
 

@@ -1,5 +1,5 @@
 -- What is left to show of `all_on`.
-use Rattle.std.proofs.Common.{◌≡◌, true, ◌&&◌, get_or, sym, refl, ap, ◌∙◌}
+use Rattle.std.proofs.Common.{get_or, sym, ◌∙◌}
 use Rattle.std.proofs.lemmas.Bool.{and_from}
 use Rattle.board.specs.Links.{no_link}
 use Rattle.board.specs.Tables.{all_fit_none, all_fit_more, all_fit_bad, misfit_fits, fit_fits}

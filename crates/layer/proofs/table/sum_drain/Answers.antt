@@ -1,5 +1,5 @@
 -- What is left to show of `sum_drain`.
-use Rattle.std.proofs.Common.{◌≤◌, arith}
+use Rattle.std.proofs.Common.{arith}
 use Rattle.board.specs.Tables.{s_of_none, s_of_more, s_of_low}
 use Rattle.layer.proofs.table.sum_drain.Goals as goal
 

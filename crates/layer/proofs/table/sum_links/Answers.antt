@@ -1,5 +1,5 @@
 -- What is left to show of `sum_links`.
-use Rattle.std.proofs.Common.{◌≤◌, arith}
+use Rattle.std.proofs.Common.{arith}
 use Rattle.board.specs.Tables.{m_of_none, m_of_more, m_of_low}
 use Rattle.layer.proofs.table.sum_links.Goals as goal
 

@@ -1,5 +1,5 @@
 -- What is left to show of `middle_earthed`.
-use Rattle.std.proofs.Common.{◌≡◌, Ok, ap, ◌∙◌}
+use Rattle.std.proofs.Common.{Ok, ap, ◌∙◌}
 use Rattle.layer.specs.Earths.{earthed}
 use Rattle.board.specs.Grids.{grid_of}
 use Rattle.pile.specs.Worked.{figures_of}

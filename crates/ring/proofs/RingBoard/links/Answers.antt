@@ -1,5 +1,5 @@
 -- What is left to show of `links`.
-use Rattle.std.proofs.Common.{◌≡◌, ◌⊎◌, sym, ◌∙◌, inl, inr, arith}
+use Rattle.std.proofs.Common.{sym, ◌∙◌, inl, inr, arith}
 use Rattle.ring.specs.Round.{m_off, m_off_left, m_zero, m_one}
 use Rattle.ring.proofs.RingBoard.links.Goals as goal
 

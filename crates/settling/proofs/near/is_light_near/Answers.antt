@@ -1,5 +1,5 @@
 -- What is left to show of `is_light_near`.
-use Rattle.std.proofs.Common.{◌≡◌, ◌<◌, ◌≤◌, length, refl, ap, inl, inr, arith}
+use Rattle.std.proofs.Common.{◌<◌, refl, ap, inl, inr, arith}
 use Rattle.std.proofs.lemmas.Bool.{cases_order, cases_lt}
 use Rattle.board.specs.Walks.{linked_on}
 use Rattle.firing.specs.Firing.{at}

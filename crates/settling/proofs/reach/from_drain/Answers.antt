@@ -1,7 +1,7 @@
 -- What is left to show of `from_drain`.
-use Rattle.std.proofs.Common.{◌≡◌, refl, ap, ◌∙◌, subst, arith}
+use Rattle.std.proofs.Common.{◌≡◌, refl, subst, arith}
 use Rattle.waiting.specs.WaitingLists.{waits}
-use Rattle.settling.proofs.Searching.{Seeded, seeded_none, seeded_skip, seeded_more, seeded_all}
+use Rattle.settling.proofs.Searching.{Seeded, seeded_none, seeded_all}
 use Rattle.settling.proofs.reach.from_drain.Goals as goal
 
 pub loop-v-init : goal.loop-v-init

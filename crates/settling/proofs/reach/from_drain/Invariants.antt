@@ -1,5 +1,5 @@
 -- The loop of `from_drain`: of the sites below, those linked to the drain are found, and no others.
-use Rattle.std.proofs.Common.{◌≡◌, ℕ, ◌<◌, ◌≤◌}
+use Rattle.std.proofs.Common.{◌≡◌}
 use Rattle.waiting.specs.WaitingLists.{waits, room}
 use Rattle.settling.proofs.Searching.{Seeded}
 use Rattle.settling.proofs.reach.from_drain.Given as goal

@@ -1,7 +1,7 @@
 -- What is left to show of `search`.
-use Rattle.std.proofs.Common.{◌≡◌, ◌<◌, ◌≤◌, ◌∷◌, length, set, sym, refl, ap, ◌∙◌, subst, arith, length-set}
+use Rattle.std.proofs.Common.{◌≤◌, set, sym, ◌∙◌, subst, arith, length-set}
 use Rattle.waiting.specs.WaitingLists.{waits}
-use Rattle.settling.specs.Searches.{mark, Queued, Found, Searching}
+use Rattle.settling.specs.Searches.{Queued, Found, Searching}
 use Rattle.settling.proofs.Queues.{popped_on, queued_pop}
 use Rattle.settling.proofs.Searching.{searching_more, searching_less, searching_end}
 use Rattle.settling.proofs.reach.search.Goals as goal

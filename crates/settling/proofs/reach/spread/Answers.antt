@@ -1,5 +1,5 @@
 -- What is left to show of `spread`.
-use Rattle.std.proofs.Common.{◌≡◌, sym, refl, ap, ◌∙◌, subst, arith}
+use Rattle.std.proofs.Common.{sym, refl, ◌∙◌, subst, arith}
 use Rattle.board.specs.Walks.{linked_on}
 use Rattle.waiting.specs.WaitingLists.{waits}
 use Rattle.settling.specs.Searches.{Queued, Offered}

@@ -1,5 +1,5 @@
 -- The loop of `spread`: the sites below j that v is linked to are found, and no others are new.
-use Rattle.std.proofs.Common.{◌≡◌, ◌-◌, ◌≤◌}
+use Rattle.std.proofs.Common.{◌≡◌, ◌-◌}
 use Rattle.waiting.specs.WaitingLists.{waits, room}
 use Rattle.settling.proofs.Searching.{Walked}
 use Rattle.settling.proofs.reach.spread.Given as goal

@@ -1,5 +1,5 @@
 -- What is left to show of `visit`.
-use Rattle.std.proofs.Common.{◌≡◌, ◌*◌, ◌/◌, ◌≤◌, min, get_or, sym, refl, ap, subst, arith}
+use Rattle.std.proofs.Common.{◌≡◌, ◌*◌, ◌/◌, min, ap, subst}
 use Rattle.firing.specs.Firing.{at}
 use Rattle.settling.specs.Firings.{Enough}
 use Rattle.settling.proofs.Visits.{times_fit, visited_some, visited_none}

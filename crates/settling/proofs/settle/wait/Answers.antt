@@ -1,5 +1,5 @@
 -- What is left to show of `wait`.
-use Rattle.settling.proofs.Marking.{waits_push, waits_yet}
+use Rattle.settling.proofs.Marking.{waits_push}
 use Rattle.settling.proofs.settle.wait.Goals as goal
 
 pub returns-then-marks-u-eq0 : goal.returns-then-marks-u-eq0

@@ -1,8 +1,8 @@
 -- What is left to show of `wait_round`.
-use Rattle.std.proofs.Common.{◌≡◌, ◌<◌, refl, ◌∙◌, arith}
+use Rattle.std.proofs.Common.{◌∙◌, arith}
 use Rattle.board.specs.Walks.{linked_on}
 use Rattle.waiting.specs.WaitingLists.{waits}
-use Rattle.settling.proofs.Marking.{walked_more, walked_end}
+use Rattle.settling.proofs.Marking.{walked_more}
 use Rattle.settling.proofs.settle.wait_round.Goals as goal
 
 pub wait-requires : goal.wait-requires

@@ -1,10 +1,10 @@
 -- What is left to show of `work_off`.
-use Rattle.std.proofs.Common.{◌≡◌, ◌<◌, length, refl, ◌∙◌, arith, length-set}
+use Rattle.std.proofs.Common.{◌≡◌, length, refl, ◌∙◌, arith, length-set}
 use Rattle.waiting.specs.WaitingLists.{waits}
 use Rattle.firing.specs.Firing.{at}
 use Rattle.settling.proofs.Marking.{queued_length}
 use Rattle.settling.proofs.Visits.{tallied_none}
-use Rattle.settling.proofs.Going.{ran_low, tallied_low, going_on, going_popped, going_skip, going_fire, going_still, falls_fire}
+use Rattle.settling.proofs.Going.{ran_low, tallied_low, going_on, going_popped, going_skip, going_fire, falls_fire}
 use Rattle.settling.proofs.settle.work_off.Goals as goal
 
 pub loop-fired-init : goal.loop-fired-init
@@ -32,10 +32,11 @@ pub note-requires : goal.note-requires
 note-requires g c =
     omega (
       arith,
-      tallied_low (g.B.Board.shape c.args.board.now) (at c.args.heights.now) (at c.loop-fired.heights) c.args.counts.now c.loop-fired.counts c.loop-fired.fired c.in-Some.v 1000000000000
-          c.loop-fired.invariant.0.tallied c.requires.few
+      tallied_low (g.B.Board.shape c.args.board.now) (at c.args.heights.now) (at c.loop-fired.heights) c.args.counts.now c.loop-fired.counts c.loop-fired.fired c.in-Some.v
+          c.loop-fired.invariant.0.tallied
           (going_on (g.B.Board.shape c.args.board.now) (at c.args.heights.now) c.args.counts.now c.loop-fired.counts c.loop-fired.heights (waits c.loop-fired.list) (waits c.pop.new.self) c.loop-fired.marks
           c.loop-fired.fired c.args.limit c.in-Some.v c.in-Some.ensures.popped c.loop-fired.invariant.0),
+      c.requires.few c.in-Some.v,
       c.visit-times.ensures.within,
     )
 

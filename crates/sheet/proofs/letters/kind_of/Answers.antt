@@ -1,4 +1,4 @@
-use Rattle.std.proofs.Common.{◌≡◌, arith, rules}
+use Rattle.std.proofs.Common.{◌≡◌, rules}
 use Rattle.sheet.specs.declared.Kind.TheVariants.{Grid, Sites, Link, Earth, Merge, Cut, Height, Ceiling, Drop, Fire, Run, Wave, Close, Shelve, Resume}
 use Rattle.sheet.specs.Letters.{letter}
 use Rattle.sheet.proofs.letters.kind_of.Goals as goal

@@ -1,4 +1,4 @@
-use Rattle.std.proofs.Common.{◌≡◌, length, get_or, arith, rules}
+use Rattle.std.proofs.Common.{arith}
 use Rattle.sheet.proofs.Decimals.{read_small, read_more, read_all}
 use Rattle.sheet.proofs.words.digits_value.Goals as goal
 

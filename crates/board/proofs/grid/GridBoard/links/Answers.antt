@@ -1,5 +1,5 @@
 -- What is left to show of `links`.
-use Rattle.std.proofs.Common.{◌*◌, ◌≤◌, ◌⊎◌, sym, ap, ◌∙◌, inl, inr, mul-le-mul, arith}
+use Rattle.std.proofs.Common.{sym, ap, inl, inr, arith}
 use Rattle.board.specs.Grids.{one}
 use Rattle.board.specs.Places.{column_lt, row_lt}
 use Rattle.board.specs.GridsLemmas.{m_off, m_off_left, m_in}

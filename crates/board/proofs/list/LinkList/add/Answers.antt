@@ -1,5 +1,5 @@
 -- What is left to show of `add`.
-use Rattle.std.proofs.Common.{◌≡◌, ℕ, ◌+◌, ◌<◌, ◌≤◌, ◌⊎◌, length, sym, refl, ap, ◌∙◌, inl, inr, arith}
+use Rattle.std.proofs.Common.{◌≡◌, ℕ, ◌+◌, ◌<◌, ◌≤◌, ◌⊎◌, length, refl, inl, inr, arith}
 use Rattle.board.specs.Shape.{all_links}
 use Rattle.board.specs.declared.link.End.{End}
 use Rattle.board.specs.declared.link.Link.{Link}

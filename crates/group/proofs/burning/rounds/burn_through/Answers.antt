@@ -1,5 +1,5 @@
 -- What is left to show of `burn_through`.
-use Rattle.std.proofs.Common.{◌≡◌, ℕ, ◌<◌, ◌≤◌, length, sym, subst, arith}
+use Rattle.std.proofs.Common.{◌≡◌, ℕ, ◌<◌, ◌≤◌, length, subst, arith}
 use Rattle.settling.specs.Searches.{mark}
 use Rattle.settling.specs.Reaching.{Says}
 use Rattle.firing.specs.Firing.{at}

@@ -1,5 +1,5 @@
 -- What is left to show of `hold`.
-use Rattle.std.proofs.Common.{◌≡◌, set, sym, subst, arith}
+use Rattle.std.proofs.Common.{set, sym, subst, arith}
 use Rattle.waiting.specs.WaitingLists.{waits, Pushed}
 use Rattle.firing.specs.Firing.{at}
 use Rattle.group.specs.Flames.{Held}

@@ -1,7 +1,6 @@
 -- What is left to show of `prepare`.
-use Rattle.std.proofs.Common.{◌≡◌, ◌-◌, cond, sym, refl, ap, ◌∙◌, arith, below_more}
+use Rattle.std.proofs.Common.{◌-◌, cond, sym, refl, ◌∙◌, arith, below_more}
 use Rattle.std.proofs.lemmas.Bool.{cond-true}
-use Rattle.board.specs.Shape.{row_total, sum_below}
 use Rattle.board.specs.Sums.{sum_same}
 use Rattle.board.specs.Walks.{deg_is}
 use Rattle.settling.proofs.Queues.{mark_here, mark_there}

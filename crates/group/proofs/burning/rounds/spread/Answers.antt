@@ -1,5 +1,5 @@
 -- What is left to show of `spread`.
-use Rattle.std.proofs.Common.{◌≡◌, ◌∷◌, set, sym, refl, ◌∙◌, subst, arith, length-set}
+use Rattle.std.proofs.Common.{refl, ◌∙◌, subst, arith, length-set}
 use Rattle.waiting.specs.WaitingLists.{waits}
 use Rattle.firing.specs.Firing.{at}
 use Rattle.group.specs.Flames.{Steady}

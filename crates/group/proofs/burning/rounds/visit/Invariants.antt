@@ -1,5 +1,5 @@
 -- The loop of `visit`: the links to the sites below j have been taken.
-use Rattle.std.proofs.Common.{◌≡◌, ◌-◌, ◌≤◌}
+use Rattle.std.proofs.Common.{◌≡◌, ◌-◌}
 use Rattle.waiting.specs.WaitingLists.{waits, room}
 use Rattle.firing.specs.Firing.{at}
 use Rattle.group.specs.Flames.{Visit, Up}

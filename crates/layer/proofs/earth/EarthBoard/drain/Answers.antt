@@ -1,5 +1,5 @@
 -- What is left to show of `drain`.
-use Rattle.std.proofs.Common.{◌≡◌, ◌+◌, sym, refl, ap, ◌∙◌, arith}
+use Rattle.std.proofs.Common.{◌≡◌, ◌+◌, sym, ap, arith}
 use Rattle.layer.specs.Earths.{earth_of}
 use Rattle.board.specs.Walks.{s_le}
 use Rattle.layer.specs.Earthed.{at_sites, at_s, earth_sound}

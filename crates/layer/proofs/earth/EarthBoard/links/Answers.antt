@@ -1,5 +1,5 @@
 -- What is left to show of `links`.
-use Rattle.std.proofs.Common.{◌≡◌, ◌⊎◌, sym, refl, ap, ◌∙◌, inl, inr, arith}
+use Rattle.std.proofs.Common.{sym, ap, inl, inr, arith}
 use Rattle.layer.specs.Layers.{up}
 use Rattle.layer.specs.Earthed.{at_m, off_zero}
 use Rattle.layer.proofs.earth.EarthBoard.links.Goals as goal

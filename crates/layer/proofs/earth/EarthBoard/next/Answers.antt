@@ -1,5 +1,5 @@
 -- What is left to show of `next`.
-use Rattle.std.proofs.Common.{◌≡◌, ℕ, ◌-◌, ◌<◌, ◌⊎◌, Some, Option, sym, refl, ap, ◌∙◌, inl, inr, arith}
+use Rattle.std.proofs.Common.{◌≡◌, ℕ, ◌-◌, ◌<◌, Some, Option, sym, ap, ◌∙◌, inl, inr, arith}
 use Rattle.board.specs.Shape.{Shape}
 use Rattle.layer.specs.Layers.{up}
 use Rattle.layer.specs.Earths.{earth_active, earth_of}

@@ -1,5 +1,5 @@
 -- What is left to show of `drain`.
-use Rattle.std.proofs.Common.{◌≡◌, sym, refl, ap, ◌∙◌, arith}
+use Rattle.std.proofs.Common.{sym, ◌∙◌, arith}
 use Rattle.board.specs.Walks.{s_le}
 use Rattle.layer.specs.Merged.{at_sites, met_s, merge_sound}
 use Rattle.layer.proofs.merge.MergeBoard.drain.Goals as goal

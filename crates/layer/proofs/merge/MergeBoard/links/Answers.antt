@@ -1,7 +1,7 @@
 -- What is left to show of `links`.
-use Rattle.std.proofs.Common.{◌≡◌, ◌⊎◌, sym, refl, ap, ◌∙◌, inl, inr, arith}
+use Rattle.std.proofs.Common.{sym, ◌∙◌, inl, inr, arith}
 use Rattle.board.specs.Walks.{m_le}
-use Rattle.layer.specs.Merged.{at_sites, met_m, off_zero, merge_sound}
+use Rattle.layer.specs.Merged.{met_m, off_zero, merge_sound}
 use Rattle.layer.proofs.merge.MergeBoard.links.Goals as goal
 
 pub returns-then-u-n : goal.returns-then-u-n

@@ -1,7 +1,7 @@
 -- What is left to show of `next`.
-use Rattle.std.proofs.Common.{◌≡◌, ◌-◌, ◌<◌, ◌⊎◌, sym, inl, inr, arith}
+use Rattle.std.proofs.Common.{◌-◌, ◌<◌, sym, inl, inr, arith}
 use Rattle.layer.specs.Merges.{joined_m}
-use Rattle.layer.specs.Uplifts.{up_below, up_above, up_not, but_not, none_up, least_down}
+use Rattle.layer.specs.Uplifts.{up_below, up_above, but_not, none_up, least_down}
 use Rattle.layer.specs.Merged.{off_zero, seen}
 use Rattle.layer.proofs.merge.MergeBoard.next.Goals as goal
 

@@ -1,4 +1,4 @@
-use Rattle.std.proofs.Common.{arith, rules}
+use Rattle.std.proofs.Common.{rules}
 use Rattle.sheet.proofs.Cuts.{single_is}
 use Rattle.sheet.proofs.reader.Reader.far_end.Goals as goal
 

@@ -1,4 +1,4 @@
-use Rattle.std.proofs.Common.{◌≡◌, ℕ, leb, List, ◌∷◌, length, drop, sym, refl, ap, subst, arith, rules}
+use Rattle.std.proofs.Common.{◌≡◌, ℕ, leb, List, ◌∷◌, length, drop, sym, refl, ap, subst, arith}
 use Rattle.sheet.specs.Parts.{lines}
 use Rattle.sheet.proofs.Cuts.{lines_none, line_taken}
 use Rattle.sheet.proofs.reader.Reader.next_line.Goals as goal

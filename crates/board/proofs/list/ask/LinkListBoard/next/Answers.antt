@@ -1,5 +1,5 @@
 -- What is left to show of `next`.
-use Rattle.std.proofs.Common.{◌≡◌, get_or, sym, refl, ap, ◌∙◌, arith}
+use Rattle.std.proofs.Common.{◌≡◌, get_or, refl, ap, ◌∙◌, arith}
 use Rattle.board.specs.Shape.{NextIs}
 use Rattle.board.specs.Lists.{listed, nearer}
 use Rattle.board.specs.Links.{no_link}

@@ -1,7 +1,7 @@
 -- What is left to show of `settle_counting`.
 use Rattle.std.proofs.Common.{◌≡◌, length, refl, arith}
-use Rattle.settling.proofs.Counting.{counting_refused}
-use Rattle.settling.proofs.settle.settle_counting.Goals as goal
+use Rattle.settling.proofs.CountingRows.{counting_refused}
+use Rattle.settling.proofs.counting.settle_counting.Goals as goal
 
 pub returns-in-Err : goal.returns-in-Err
 returns-in-Err g c =

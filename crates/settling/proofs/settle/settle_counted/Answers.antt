@@ -1,9 +1,9 @@
--- What is left to show of `settle_fit`.
-use Rattle.std.proofs.Common.{◌≡◌, ◌≤◌, length, refl, ap, ◌∙◌, arith}
+-- What is left to show of `settle_counted`.
+use Rattle.std.proofs.Common.{refl, ap, arith}
 use Rattle.board.specs.Shape.{sum_below}
 use Rattle.firing.specs.Firing.{at}
 use Rattle.settling.proofs.Going.{ended_still, ended_spent}
-use Rattle.settling.proofs.settle.settle_fit.Goals as goal
+use Rattle.settling.proofs.settle.settle_counted.Goals as goal
 
 pub work_off-fired-requires : goal.work_off-fired-requires
 work_off-fired-requires g c =
@@ -15,7 +15,6 @@ work_off-fired-requires g c =
       room = omega (arith, c.scan.ensures.room, c.new-list.ensures.room);
       low = omega (arith, c.requires.fit.light, ap (λ n. sum_below n (at xs)) c.requires.fit.sized);
       few = c.requires.few;
-      most = c.requires.most;
       queued = c.scan.ensures.queued;
       covered = c.scan.ensures.covered;
     }

@@ -2,7 +2,7 @@
 use Rattle.std.proofs.Common.{length, inl, inr, arith}
 use Rattle.std.proofs.lemmas.List.{get_or_past}
 use Rattle.std.proofs.lemmas.Bool.{cases_lt}
-use Rattle.settling.proofs.settle.all_low.Goals as goal
+use Rattle.settling.proofs.counting.all_low.Goals as goal
 
 pub returns : goal.returns
 returns c u = elim (cases_lt u (length c.args.counts.now)) [

@@ -1,0 +1,59 @@
+// Settling with a count for each site, to which its firings are added.
+ghost use Rattle.std.specs.Prelude.{◌≡◌, ℕ, List, length};
+ghost use Rattle.refusal.specs.Table.{InOrder, rows};
+ghost use Rattle.settling.specs.Settlings.{Low, SettledCounting, count_checks};
+
+use crate::settle::{Outcome, check, settle_counted};
+use board::Board;
+use refusal::{Part, Refusal, Row};
+
+// Whether no count is above 1,000,000,000,000.
+fn all_low(counts: &[u64]) -> bool
+    ensures { Low counts.now result }
+{
+    for i in 0..counts.len() {
+        if counts[i] > 1_000_000_000_000 {
+            return false;
+        }
+    }
+    true
+}
+
+// Settles `heights` as `settle` does, and adds each site's firings to its count.
+pub fn settle_counting<B: Board>(
+    board: &B,
+    heights: &mut [u64],
+    counts: &mut [u64],
+    waiting: &mut [usize],
+    marks: &mut [u8],
+    budget: u64,
+    part: Part,
+) -> Result<Outcome, Refusal>
+    ensures { SettledCounting (B.Board.shape board.now) heights.old heights.new counts.old counts.new (length waiting.old) (length marks.old) budget part result }
+{
+    if counts.len() != board.count() {
+        return Err(Refusal {
+            row: Row::Memory,
+            place: 0,
+            part,
+        });
+    }
+    if let Err(e) = check(board, heights, waiting.len(), marks.len(), budget, part) {
+        return Err(e);
+    }
+    if !all_low(counts) {
+        return Err(Refusal {
+            row: Row::Limit,
+            place: 0,
+            part,
+        });
+    }
+    Ok(settle_counted(board, heights, counts, waiting, marks, budget))
+}
+
+// The rows by which `settle_counting` refuses, in the order of its checks.
+pub fn settle_counting_rows() -> [Row; 2]
+    ensures { (n : ℕ) (xs cs : List ℕ) (slots bytes budget : ℕ) → (result ≡ rows (count_checks n xs cs slots bytes budget)) × InOrder (count_checks n xs cs slots bytes budget) }
+{
+    [Row::Memory, Row::Limit]
+}
