@@ -1,21 +1,21 @@
 -- Which steps of a bench keep the law, and what it says of a record.
-use Rattle.std.proofs.Common.{◌≡◌, ℕ, suc, ◌+◌, ◌-◌, ◌*◌, ◌<◌, ◌≤◌, Bool, true, false, cond, eqb, ltb, ◌≢◌, List, [], ◌∷◌, length, get_or, set, Some, None, sym, refl, ap, ◌∙◌, subst, mul-zero, mul-add, arith, length-set, get_or-set_other, get_or-set_same}
+use Rattle.std.proofs.Common.{◌≡◌, ℕ, ◌+◌, ◌-◌, ◌*◌, ◌<◌, cond, eqb, ltb, List, [], ◌∷◌, length, set, sym, refl, ap, ◌∙◌, subst, mul-zero, mul-add, arith, length-set, get_or-set_other, get_or-set_same}
 use native.Mathlib.Decide.{ℕ_discrete}
 use Rattle.std.proofs.lemmas.Bool.{cond-true, cond-false, eq-eqb, ne_eqb}
 use Rattle.board.specs.Shape.{Shape, Sound, deg, sum_below}
 use Rattle.board.specs.Sums.{sum_same, sum_plus, sum_none, sum_at}
-use Rattle.firing.specs.Firing.{fires_from, at, Still, Run, begin}
-use Rattle.firing.specs.Settling.{inflow, drained, Settles, Follows, AtMost, Same, Least, Settled}
+use Rattle.firing.specs.Firing.{at, Still, Run, begin}
+use Rattle.firing.specs.Settling.{inflow, drained, Settles, Follows, AtMost, Same, Least}
 use Rattle.firing.specs.Reaching.{AllReach}
-use Rattle.firing.proofs.Action.{inflow_same, run_follows, least_action, follows_conserves, settles_fewer, still_settles, run_least}
+use Rattle.firing.proofs.Action.{inflow_same, run_follows, least_action, settles_fewer, still_settles, run_least}
 use Rattle.firing.proofs.Runs.{run_then, run_same}
 use Rattle.firing.proofs.Reach.{reach_linked}
 use Rattle.bench.specs.declared.Phase.{Phase}
-use Rattle.bench.specs.declared.Phase.TheVariants.{Resting, Open, Shelved}
+use Rattle.bench.specs.declared.Phase.TheVariants.{Resting, Open}
 use Rattle.bench.specs.declared.GrainDrop.{GrainDrop}
 use Rattle.bench.specs.declared.Record.{Record}
-use Rattle.bench.specs.States.{State, since, Conserved, phased, dropped}
-use Rattle.bench.specs.Avalanches.{drop_on, loaded, newest, Opening, Before, firing_sites, Law, Recorded}
+use Rattle.bench.specs.States.{State, since, phased, dropped}
+use Rattle.bench.specs.Avalanches.{drop_on, loaded, Opening, Before, Law, Recorded}
 use Rattle.bench.specs.Answers.{Moves, Begun, Written}
 
 resting_open : Open ≡ Resting → ⊥

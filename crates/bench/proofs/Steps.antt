@@ -1,12 +1,12 @@
 -- The phases that events need and lead to, and what steps of a bench do to its totals.
-use Rattle.std.proofs.Common.{◌≡◌, ℕ, ◌+◌, ◌<◌, ◌≤◌, List, length, set, Some, None, Option, sym, refl, ap, ◌∙◌, subst, arith, get_or-set_other, get_or-set_same}
+use Rattle.std.proofs.Common.{◌≡◌, ℕ, ◌+◌, ◌<◌, ◌≤◌, List, length, set, Some, None, Option, refl, ap, ◌∙◌, arith, get_or-set_other, get_or-set_same}
 use Rattle.board.specs.Shape.{Shape, sum_below}
 use Rattle.firing.specs.Firing.{at}
 use Rattle.firing.proofs.Sums.{sum_point}
 use Rattle.bench.specs.declared.Phase.{Phase}
 use Rattle.bench.specs.declared.Phase.TheVariants.{Resting, Open, Shelved}
 use Rattle.bench.specs.declared.phases.Event.{Event}
-use Rattle.bench.specs.declared.phases.Event.TheVariants.{Resume, Drop, Fire, Close, Shelve}
+use Rattle.bench.specs.declared.phases.Event.TheVariants.{Resume, Drop, Fire, Close}
 use Rattle.refusal.specs.Table.{Passed}
 use Rattle.bench.specs.declared.GrainDrop.{GrainDrop}
 use Rattle.bench.specs.Phases.{after}

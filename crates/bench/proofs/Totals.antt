@@ -1,5 +1,5 @@
 -- What legal firings do to the totals that a bench keeps.
-use Rattle.std.proofs.Common.{◌≡◌, ℕ, ◌+◌, ◌-◌, ◌*◌, ◌<◌, ◌≤◌, min, Bool, true, false, cond, eqb, ◌⊎◌, List, length, set, sym, refl, ap, ◌∙◌, subst, inl, inr, mul-zero, arith, length-set, get_or-set_other, get_or-set_same}
+use Rattle.std.proofs.Common.{◌≡◌, ℕ, ◌+◌, ◌*◌, ◌<◌, ◌≤◌, min, Bool, true, false, eqb, ◌⊎◌, List, length, set, sym, refl, ap, ◌∙◌, subst, inl, inr, mul-zero, arith, get_or-set_other, get_or-set_same}
 use native.Mathlib.Nat.{min-le_left, min-le_right, min-eq_left, min-eq_right}
 use native.Mathlib.Decide.{ℕ_discrete}
 use Rattle.std.proofs.lemmas.List.{get_or_past}
@@ -8,7 +8,7 @@ use Rattle.board.specs.Shape.{Shape, Sound, sum_below}
 use Rattle.board.specs.Sums.{sum_same, sum_plus, sum_none}
 use Rattle.firing.specs.Firing as firing
 use Rattle.firing.specs.Firing.{at, Fires, Counts, Run, begin, fire}
-use Rattle.firing.specs.Settling.{drained, Settles, Least}
+use Rattle.firing.specs.Settling.{drained, Least}
 use Rattle.firing.specs.Reaching.{AllLinked}
 use Rattle.firing.proofs.Action.{run_follows, follows_conserves}
 use Rattle.firing.proofs.Runs.{counts_total, drained_more}
@@ -16,8 +16,8 @@ use Rattle.settling.specs.declared.settle.Outcome.{Outcome}
 use Rattle.settling.specs.Settlings.{Ended}
 use Rattle.bench.specs.declared.Word.{Word}
 use Rattle.bench.specs.declared.Word.TheVariants.{Still, Ceiling, Budget}
-use Rattle.bench.specs.States.{State, left}
-use Rattle.bench.specs.Answers.{Moves, once, Number, WordIs, RunDone}
+use Rattle.bench.specs.States.{State}
+use Rattle.bench.specs.Answers.{once, Number, WordIs}
 use Rattle.bench.specs.Waves.{WordFor}
 
 module _ (s : Shape) where

@@ -1,14 +1,14 @@
 -- The steps of a wave.
-use Rattle.std.proofs.Common.{◌≡◌, ℕ, ◌+◌, ◌*◌, ◌<◌, ◌≤◌, Bool, true, false, cond, ltb, ◌≢◌, List, length, set, Ok, Err, Result, sym, refl, ap, ◌∙◌, subst, inl, inr, mul-zero, mul-one, arith, length-set, get_or-set_other, get_or-set_same, le-ltb, lt-ltb}
+use Rattle.std.proofs.Common.{◌≡◌, ℕ, ◌+◌, ◌*◌, ◌<◌, ◌≤◌, ltb, ◌≢◌, List, length, set, Ok, Err, Result, sym, refl, ap, ◌∙◌, subst, inl, inr, mul-zero, arith, length-set, get_or-set_other, get_or-set_same, le-ltb, lt-ltb}
 use native.Mathlib.Decide.{ℕ_discrete}
 use Rattle.std.proofs.lemmas.Bool.{cases_lt, cond-true, cond-false}
 use Rattle.refusal.specs.declared.Part.{Part}
 use Rattle.refusal.specs.declared.Refusal.{Refusal}
 use Rattle.refusal.specs.Table.{Passed}
 use Rattle.refusal.proofs.Answers.{not_both}
-use Rattle.board.specs.Shape.{Shape, Sound, deg, sum_below}
-use Rattle.board.specs.Sums.{sum_none, sum_same, sum_term}
-use Rattle.firing.specs.Firing.{at, CanFire, Fires, Counts, Run, begin, fire}
+use Rattle.board.specs.Shape.{Shape, Sound, sum_below}
+use Rattle.board.specs.Sums.{sum_none, sum_same}
+use Rattle.firing.specs.Firing.{at, CanFire, Fires, Counts, begin, fire}
 use Rattle.firing.specs.Settling.{drained, Same}
 use Rattle.firing.proofs.Action.{run_follows, follows_conserves}
 use Rattle.firing.proofs.Runs.{run_same, drained_more}

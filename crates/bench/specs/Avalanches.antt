@@ -1,5 +1,5 @@
 -- The law of least count: what heights, counts and records of a bench are by its start and its drops, for a bench whose calls are all given its own board.
-use Rattle.std.specs.Prelude.{◌≡◌, ℕ, ◌+◌, ◌<◌, cond, List, [], ◌∷◌, length, Some, None, Option, ◌==◌, nat_lt}
+use Rattle.std.specs.Prelude.{◌≡◌, ℕ, ◌+◌, cond, List, [], ◌∷◌, length, Some, None, Option, ◌==◌, nat_lt}
 use Rattle.board.specs.Shape.{Shape, sum_below}
 use Rattle.firing.specs.Firing.{at, Still, Run}
 use Rattle.firing.specs.Settling.{drained, Settles, Follows, AtMost, Same, Least, Settled}

@@ -1,7 +1,6 @@
 -- The rows of each call are those of its checks, in the order of the table.
 use Rattle.std.specs.Prelude.{◌≡◌, ℕ, List}
-use Rattle.refusal.specs.declared.Row.{Row}
-use Rattle.refusal.specs.Table.{Check, InOrder, rows}
+use Rattle.refusal.specs.Table.{InOrder, rows}
 use Rattle.board.specs.Shape.{Shape}
 use Rattle.bench.specs.declared.GrainDrop.{GrainDrop}
 use Rattle.bench.specs.declared.rows.CallRows.{CallRows}

@@ -1,5 +1,5 @@
 -- What a bench holds, as lists and numbers.
-use Rattle.std.specs.Prelude.{◌≡◌, ℕ, ◌+◌, ◌-◌, List, length, Some, None, vec_items, Option, slice_set}
+use Rattle.std.specs.Prelude.{◌≡◌, ℕ, ◌+◌, ◌-◌, List, length, Some, vec_items, Option, slice_set}
 use Rattle.board.specs.Shape.{sum_below}
 use Rattle.firing.specs.Firing.{at}
 use Rattle.bench.specs.declared.Phase.{Phase}

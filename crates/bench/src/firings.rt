@@ -9,9 +9,9 @@ ghost use Rattle.bench.specs.Waves.{Waving, WaveDone, WordFor};
 use super::Word;
 use board::Board;
 use refusal::Part;
+use settling::counting::settle_counting;
 use settling::fire::{can_fire, lowest_ready};
 use settling::near::fire_near;
-use settling::counting::settle_counting;
 use settling::settle::Outcome;
 
 // All entries together.

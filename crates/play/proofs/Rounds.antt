@@ -1,10 +1,9 @@
 -- The turns of a play, one after the other.
-use Rattle.std.proofs.Common.{◌≡◌, ℕ, ◌+◌, ◌<◌, ◌≤◌, List, [], ◌∷◌, ◌++◌, length, get_or, take, set, None, Option, sym, refl, ap, ◌∙◌, subst, append_assoc, append-nil, add_assoc, add-one, arith, length-append, length-take, take_all, take-suc, take-suc-set}
+use Rattle.std.proofs.Common.{◌≡◌, ℕ, ◌+◌, ◌<◌, ◌≤◌, List, [], ◌∷◌, ◌++◌, length, get_or, take, set, None, sym, refl, ap, ◌∙◌, subst, append_assoc, append-nil, add-one, arith, length-append, take_all, take-suc, take-suc-set}
 use Rattle.refusal.specs.declared.Part.{Part}
 use Rattle.board.specs.Shape.{Shape}
 use Rattle.bench.specs.declared.GrainDrop.{GrainDrop}
 use Rattle.bench.specs.declared.Record.{Record}
-use Rattle.bench.specs.declared.Ticket.{Ticket}
 use Rattle.bench.specs.States.{State}
 use Rattle.bench.specs.Avalanches.{Law}
 use Rattle.play.specs.declared.Call.{Call}

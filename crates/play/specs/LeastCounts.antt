@@ -1,5 +1,5 @@
 -- The law of least count, for a whole list of calls: what heights, counts and records are by the start, the calls and the answers.
-use Rattle.std.specs.Prelude.{◌≡◌, ℕ, ◌+◌, List, [], ◌∷◌, ◌++◌, length, slice_set}
+use Rattle.std.specs.Prelude.{ℕ, ◌+◌, List, [], ◌∷◌, ◌++◌, slice_set}
 use Rattle.board.specs.Shape.{Shape}
 use Rattle.firing.specs.Firing.{at}
 use Rattle.firing.specs.Settling.{Settles, Follows, AtMost}

@@ -4,8 +4,7 @@ use Rattle.refusal.specs.declared.Row.TheVariants as row
 use Rattle.refusal.specs.declared.Part.{Part}
 use Rattle.refusal.specs.declared.Refusal.{Refusal}
 use Rattle.board.specs.Shape.{Shape}
-use Rattle.bench.specs.declared.Phase.TheVariants.{Open, Shelved}
-use Rattle.bench.specs.declared.GrainDrop.{GrainDrop}
+use Rattle.bench.specs.declared.Phase.TheVariants.{Shelved}
 use Rattle.bench.specs.declared.Record.{Record}
 use Rattle.bench.specs.declared.RunOutcome.{RunOutcome}
 use Rattle.bench.specs.declared.Ticket.{Ticket}

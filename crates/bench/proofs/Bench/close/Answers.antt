@@ -1,11 +1,9 @@
 -- What is left to show of `close`.
-use Rattle.std.proofs.Common.{◌≡◌, ◌+◌, ◌<◌, ◌≤◌, sym, refl, ap, ◌∙◌, subst, arith}
+use Rattle.std.proofs.Common.{◌+◌, sym, ap, ◌∙◌, subst, arith}
 use Rattle.board.specs.Shape.{sum_below}
 use Rattle.firing.specs.Firing.{at, Still}
-use Rattle.bench.specs.declared.Phase.{Phase}
-use Rattle.bench.specs.declared.Phase.TheVariants.{Resting}
 use Rattle.bench.specs.declared.phases.Event.TheVariants.{Close}
-use Rattle.bench.specs.States.{State, state, phased}
+use Rattle.bench.specs.States.{state, phased}
 use Rattle.bench.proofs.Keeping.{law_phased, law_recorded, law_since}
 use Rattle.bench.proofs.Steps.{after_close, some_none}
 use Rattle.bench.proofs.Bench.close.Goals as goal

@@ -1,5 +1,5 @@
 -- What is left to show of `drop_grains`.
-use Rattle.std.proofs.Common.{◌≡◌, ◌+◌, ◌<◌, ◌≤◌, ◌∷◌, length, set, Some, vec_items, sym, refl, ap, ◌∙◌, subst, inl, inr, arith, length-set}
+use Rattle.std.proofs.Common.{◌≡◌, ◌+◌, ◌<◌, ◌∷◌, length, set, Some, vec_items, sym, refl, ap, ◌∙◌, subst, inl, inr, arith, length-set}
 use Rattle.std.proofs.lemmas.List.{get_or_read}
 use Rattle.board.specs.Shape.{sum_below}
 use Rattle.board.specs.Sums.{sum_term}
@@ -11,8 +11,8 @@ use Rattle.bench.proofs.Keeping.{law_dropped}
 use Rattle.bench.proofs.Steps.{after_drop, some_none, set_total}
 use Rattle.bench.proofs.Bench.drop_grains.Goals as goal
 
-pub overflow_add-self : goal.overflow_add-self
-overflow_add-self g c =
+pub overflow_add-index_mut : goal.overflow_add-index_mut
+overflow_add-index_mut g c =
     let b = c.args.self.now in
     let on : c.args.drop.site < length (vec_items b.heights) = omega (arith, b.heights.ok.0) in
     omega (

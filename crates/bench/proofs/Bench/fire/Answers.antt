@@ -1,5 +1,5 @@
 -- What is left to show of `fire`.
-use Rattle.std.proofs.Common.{◌≡◌, ℕ, ◌+◌, ◌<◌, ◌≤◌, List, length, sym, refl, ap, ◌∙◌, subst, arith}
+use Rattle.std.proofs.Common.{◌+◌, length, sym, ap, ◌∙◌, subst, arith}
 use Rattle.board.specs.Walks.{s_le}
 use Rattle.firing.specs.Firing.{at, CanFire}
 use Rattle.bench.specs.declared.phases.Event.TheVariants.{Fire}

@@ -1,8 +1,6 @@
 -- What is left to show of `run`.
-use Rattle.std.proofs.Common.{◌≡◌, ℕ, ◌+◌, ◌-◌, ◌<◌, ◌≤◌, length, sym, refl, ap, ◌∙◌, subst, inl, inr, arith}
+use Rattle.std.proofs.Common.{◌+◌, ◌-◌, length, ap, ◌∙◌, inl, inr, arith}
 use native.Mathlib.Nat.{min-le_left}
-use Rattle.board.specs.Shape.{sum_below}
-use Rattle.firing.specs.Firing.{at}
 use Rattle.bench.specs.declared.phases.Event.TheVariants.{Fire}
 use Rattle.bench.specs.States.{state}
 use Rattle.bench.proofs.Keeping.{law_moves}

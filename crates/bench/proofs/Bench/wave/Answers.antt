@@ -1,6 +1,5 @@
 -- What is left to show of `wave`.
-use Rattle.std.proofs.Common.{◌≡◌, ℕ, ◌+◌, ◌<◌, ◌≤◌, length, sym, refl, ap, ◌∙◌, subst, inl, inr, arith}
-use Rattle.board.specs.Shape.{sum_below}
+use Rattle.std.proofs.Common.{◌+◌, length, sym, ap, ◌∙◌, subst, inl, inr, arith}
 use Rattle.firing.specs.Firing.{at}
 use Rattle.bench.specs.declared.phases.Event.TheVariants.{Fire}
 use Rattle.bench.specs.States.{state}

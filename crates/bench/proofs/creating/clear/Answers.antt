@@ -1,5 +1,5 @@
 -- What is left to show of `clear`.
-use Rattle.std.proofs.Common.{◌≡◌, ◌<◌, ◌≢◌, length, inl, inr, arith, get_or-set_other, get_or-set_same, below_more}
+use Rattle.std.proofs.Common.{◌<◌, ◌≢◌, length, inl, inr, arith, get_or-set_other, get_or-set_same, below_more}
 use Rattle.std.proofs.lemmas.List.{get_or_past}
 use Rattle.std.proofs.lemmas.Bool.{cases_lt}
 use Rattle.bench.proofs.creating.clear.Goals as goal

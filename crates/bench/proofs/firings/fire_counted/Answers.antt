@@ -1,5 +1,5 @@
 -- What is left to show of `fire_counted`.
-use Rattle.std.proofs.Common.{◌≡◌, length, refl, ap, ◌∙◌, arith}
+use Rattle.std.proofs.Common.{refl, ap, arith}
 use Rattle.board.specs.Shape.{sum_below}
 use Rattle.firing.specs.Firing.{at}
 use Rattle.settling.proofs.Spread.{low_all}

@@ -1,8 +1,7 @@
 -- What is left to show of `fire_marked`.
-use Rattle.std.proofs.Common.{◌≡◌, ◌+◌, ◌<◌, ◌≤◌, length, set, sym, refl, ◌∙◌, subst, arith}
+use Rattle.std.proofs.Common.{◌+◌, ◌<◌, set, refl, ◌∙◌, arith}
 use Rattle.firing.specs.Firing.{at}
 use Rattle.board.specs.Walks.{s_le}
-use Rattle.bench.specs.Waves.{Waving}
 use Rattle.bench.proofs.Waving.{wave_begins, wave_skips, wave_can, wave_fires, wave_ends, wave_light, wave_few, waving_at, ready_one, ready_none}
 use Rattle.bench.proofs.firings.fire_marked.Goals as goal
 use Rattle.bench.proofs.firings.fire_marked.Goals.{then-bytes-v-eq1, else-bytes-v-eq1}

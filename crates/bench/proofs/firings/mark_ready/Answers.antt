@@ -1,5 +1,5 @@
 -- What is left to show of `mark_ready`.
-use Rattle.std.proofs.Common.{◌≡◌, ◌+◌, ◌<◌, ◌≤◌, length, set, sym, refl, ◌∙◌, subst, arith, get_or-set_other, get_or-set_same}
+use Rattle.std.proofs.Common.{◌<◌, length, set, sym, refl, subst, arith, get_or-set_other, get_or-set_same}
 use native.Mathlib.Decide.{ℕ_discrete}
 use Rattle.board.specs.Shape.{sum_below}
 use Rattle.board.specs.Sums.{sum_suc, sum_same}

@@ -1,5 +1,5 @@
 -- What is left to show of `run_within`.
-use Rattle.std.proofs.Common.{◌≡◌, ◌≤◌, sym, refl, subst, arith}
+use Rattle.std.proofs.Common.{refl, arith}
 use Rattle.firing.specs.Firing.{at}
 use Rattle.settling.proofs.Visits.{tallied_none}
 use Rattle.settling.proofs.Going.{ended_still, ended_spent}

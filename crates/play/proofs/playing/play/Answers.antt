@@ -1,5 +1,5 @@
 -- What is left to show of `play`.
-use Rattle.std.proofs.Common.{◌≡◌, length, arith}
+use Rattle.std.proofs.Common.{arith}
 use Rattle.play.proofs.Rounds.{whole_answers, whole_least}
 use Rattle.play.proofs.playing.play.Goals as goal
 

@@ -1,5 +1,5 @@
 -- What is left to show of `play_on`.
-use Rattle.std.proofs.Common.{◌≡◌, length, get_or, refl, ◌∙◌, arith}
+use Rattle.std.proofs.Common.{length, get_or, refl, ◌∙◌, arith}
 use Rattle.bench.specs.States.{state, entries, held}
 use Rattle.play.specs.declared.Call.TheVariants.{Resume}
 use Rattle.play.specs.Turns.{place}

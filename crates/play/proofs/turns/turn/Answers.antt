@@ -1,8 +1,8 @@
 -- What is left to show of `turn`.
-use Rattle.std.proofs.Common.{◌≡◌, length, refl}
+use Rattle.std.proofs.Common.{length, refl}
 use Rattle.bench.specs.States.{state, entries, held}
 use Rattle.play.specs.Turns.{place}
-use Rattle.play.specs.declared.Call.TheVariants.{Resume, Drop, Shelve}
+use Rattle.play.specs.declared.Call.TheVariants.{Resume, Drop}
 use Rattle.play.proofs.Rounds.{files_none, turn_at, kept_at}
 use Rattle.play.proofs.turns.turn.Goals as goal
 
