@@ -37,7 +37,7 @@ def respelled(name):
     return "_".join(parts)
 
 
-MADE = ["overflow_add", "overflow_sub", "overflow_mul", "overflow_cast", "overflow_step", "nonzero_div", "nonzero_rem", "slice_bounds", "offset_bounds", "invariant_of", "in_default", "in_ok", "in_err", "type_inv", "deref_mut", "index_mut", "as_slice"]
+MADE = ["overflow_add", "overflow_sub", "overflow_mul", "overflow_cast", "overflow_step", "nonzero_div", "nonzero_rem", "slice_bounds", "offset_bounds", "invariant_of", "in_default", "in_ok", "in_err", "type_inv", "deref_mut", "index_mut", "as_slice", "from_residual"]
 
 
 def rejoined(token, idents):
@@ -57,11 +57,12 @@ def goals(text, idents):
 
 
 def clauses(text):
-    """In a function over any board the meaning is that of its bound."""
+    """In a function over any board or entry the meaning is that of its bound."""
     out = []
     for line in text.split("\n"):
         if re.match(r"\s*(requires|ensures)\b", line):
             line = re.sub(r"(?<![\w.{])(?<!ensures )shape (?=\w)", "B.Board.shape ", line)
+            line = re.sub(r"\b(Queued|Offered|Searching|Found) site (?=[n(])", r"\1 E.Entry.site ", line)
         out.append(line)
     return "\n".join(out)
 
