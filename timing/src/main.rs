@@ -1,4 +1,4 @@
-// Times the proved settling (target/bin/settle_timing) and a plain program on the same work, and prints both and the ratio.
+// Times the proved settling (crates/settle_timing/out/settle_timing) and a plain program on the same work, and prints both and the ratio.
 use std::collections::VecDeque;
 use std::process::Command;
 use std::time::{Duration, Instant};
@@ -76,7 +76,7 @@ fn timed<T>(work: impl FnOnce() -> T) -> (T, Duration) {
 }
 
 fn proved(args: &[&str]) -> u64 {
-    let out = Command::new("target/bin/settle_timing").args(args).output().expect("rt check settle_timing first");
+    let out = Command::new("crates/settle_timing/out/settle_timing").args(args).output().expect("(cd crates/settle_timing && rt run) first");
     String::from_utf8_lossy(&out.stdout).trim().parse().expect("a number")
 }
 
