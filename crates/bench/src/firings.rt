@@ -73,6 +73,9 @@ pub(crate) fn mark_ready<B: Board>(board: &B, heights: &[u64], bytes: &mut [u8])
     ready
 }
 
+// The mark of a site that can fire.
+const READY: u8 = 1;
+
 // Fires each marked site once, and counts it; the grains that go to the drain.
 pub(crate) fn fire_marked<B: Board>(
     board: &B,
@@ -90,7 +93,7 @@ pub(crate) fn fire_marked<B: Board>(
 {
     let mut drained = 0;
     for v in 0..heights.len() {
-        if bytes[v] == 1 {
+        if bytes[v] == READY {
             drained += fire_counted(board, heights, counts, v);
         }
     }

@@ -4,7 +4,7 @@ use Rattle.firing.specs.Firing.{at}
 use Rattle.board.specs.Walks.{s_le}
 use Rattle.bench.proofs.Waving.{wave_begins, wave_skips, wave_can, wave_fires, wave_ends, wave_light, wave_few, waving_at, ready_one, ready_none}
 use Rattle.bench.proofs.firings.fire_marked.Goals as goal
-use Rattle.bench.proofs.firings.fire_marked.Goals.{then-bytes-v-eq1, else-bytes-v-eq1}
+use Rattle.bench.proofs.firings.fire_marked.Goals.{then-bytes-v-eq-READY, else-bytes-v-eq-READY}
 
 pub loop-v-init : goal.loop-v-init
 loop-v-init g c = wave_begins (g.B.Board.shape c.args.board.now) (at c.args.heights.now) c.args.counts.now (at c.args.bytes.now) c.args.heights.now (λ u l. refl)
@@ -21,7 +21,7 @@ fire_counted-drained-requires g c =
       sized = omega (arith, c.requires.sized);
       counted = omega (arith, c.requires.counted);
       on = on;
-      can = wave_can s h cs w v c.loop-v.heights c.loop-v.counts c.loop-v.drained on (ready_one s h v (w v) (c.requires.ready v on) c.if-bytes-v-eq1.true) c.loop-v.invariant;
+      can = wave_can s h cs w v c.loop-v.heights c.loop-v.counts c.loop-v.drained on (ready_one s h v (w v) (c.requires.ready v on) c.if-bytes-v-eq-READY.true) c.loop-v.invariant;
       light = (wave_light s h cs w (g.met.B.Board.sound c.args.board.now) v c.loop-v.heights c.loop-v.counts c.loop-v.drained c.loop-v.invariant c.requires.light).0;
       few = wave_few s h cs w v c.loop-v.heights c.loop-v.counts c.loop-v.drained on c.loop-v.invariant c.requires.few;
     }
@@ -47,14 +47,14 @@ loop-v-preserved g c =
     let xs = c.loop-v.heights in
     let ys = c.loop-v.counts in
     let d = c.loop-v.drained in
-    elim c.if-bytes-v-eq1.branch [
-      | then-bytes-v-eq1 e ↦
-          waving_at s h cs w (v + 1) e.fire_counted-drained.new.heights c.if-bytes-v-eq1.heights (set ys v (at ys v + 1)) c.if-bytes-v-eq1.counts (d + s.s v) c.if-bytes-v-eq1.drained
+    elim c.if-bytes-v-eq-READY.branch [
+      | then-bytes-v-eq-READY e ↦
+          waving_at s h cs w (v + 1) e.fire_counted-drained.new.heights c.if-bytes-v-eq-READY.heights (set ys v (at ys v + 1)) c.if-bytes-v-eq-READY.counts (d + s.s v) c.if-bytes-v-eq-READY.drained
           e.heights-is (e.counts-is ∙ e.fire_counted-drained.ensures.counts) (omega (arith, e.drained-is, e.fire_counted-drained.ensures.drains))
-          (wave_fires s h cs w (g.met.B.Board.sound c.args.board.now) v xs e.fire_counted-drained.new.heights ys d c.requires.counted e.if-bytes-v-eq1.true c.loop-v.invariant e.fire_counted-drained.ensures.fires)
-      | else-bytes-v-eq1 e ↦
-          waving_at s h cs w (v + 1) xs c.if-bytes-v-eq1.heights ys c.if-bytes-v-eq1.counts d c.if-bytes-v-eq1.drained e.heights-is e.counts-is e.drained-is
-          (wave_skips s h cs w v xs ys d (ready_none s h v (w v) (c.requires.ready v on) e.if-bytes-v-eq1.false) c.loop-v.invariant)
+          (wave_fires s h cs w (g.met.B.Board.sound c.args.board.now) v xs e.fire_counted-drained.new.heights ys d c.requires.counted e.if-bytes-v-eq-READY.true c.loop-v.invariant e.fire_counted-drained.ensures.fires)
+      | else-bytes-v-eq-READY e ↦
+          waving_at s h cs w (v + 1) xs c.if-bytes-v-eq-READY.heights ys c.if-bytes-v-eq-READY.counts d c.if-bytes-v-eq-READY.drained e.heights-is e.counts-is e.drained-is
+          (wave_skips s h cs w v xs ys d (ready_none s h v (w v) (c.requires.ready v on) e.if-bytes-v-eq-READY.false) c.loop-v.invariant)
     ]
 
 pub returns : goal.returns
