@@ -2,7 +2,7 @@
 ghost use Rattle.std.specs.Prelude.{◌≡◌, ℕ, ◌+◌, ◌-◌, ◌<◌, ◌≤◌, List, length, if◌then◌else◌, nat_lt, slice_set};
 ghost use Rattle.board.specs.Shape.{sum_below};
 ghost use Rattle.firing.specs.Firing.{at};
-ghost use Rattle.bench.specs.declared.GrainDrop.{GrainDrop as a-drop};
+ghost use Rattle.bench.specs.declared.GrainDrop.{GrainDrop as a_drop};
 ghost use Rattle.bench.specs.States.{state, Conserved, entries, held};
 ghost use Rattle.bench.specs.Avalanches.{Law};
 ghost use Rattle.bench.specs.Answers.{Written, Closed, RecordLaw};
@@ -93,7 +93,7 @@ impl Bench {
     ) -> Result<Record, (Refusal, Ticket)>
         ensures answer { Closed (B.Board.shape board.now) (state self.old) (state self.new) ticket (entries records.old) (held records.old) (entries records.new) (held records.new) result }
         ensures conserved { Conserved (state self.new) }
-        ensures law { (start : ℕ → ℕ) (ds : List a-drop) → Law (B.Board.shape board.now) start ds (state self.old) → Law (B.Board.shape board.now) start ds (state self.new) }
+        ensures law { (start : ℕ → ℕ) (ds : List a_drop) → Law (B.Board.shape board.now) start ds (state self.old) → Law (B.Board.shape board.now) start ds (state self.new) }
         ensures least { RecordLaw (B.Board.shape board.now) (state self.old) result }
         ensures same { records.new.slots.ghost_name ≡ records.old.slots.ghost_name }
     {

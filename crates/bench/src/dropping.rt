@@ -1,6 +1,6 @@
 // Drop: grains fall on a resting bench and open an avalanche.
 ghost use Rattle.std.specs.Prelude.{◌≡◌, ℕ, List};
-ghost use Rattle.bench.specs.declared.GrainDrop.{GrainDrop as a-drop};
+ghost use Rattle.bench.specs.declared.GrainDrop.{GrainDrop as a_drop};
 ghost use Rattle.bench.specs.States.{state, Conserved};
 ghost use Rattle.bench.specs.Avalanches.{Law};
 ghost use Rattle.bench.specs.Answers.{Dropped, with_drop};
@@ -15,7 +15,7 @@ impl Bench {
     pub fn drop_grains<B: Board>(&mut self, board: &B, drop: GrainDrop) -> Result<Ticket, Refusal>
         ensures answer { Dropped (B.Board.shape board.now) (state self.old) (state self.new) drop result }
         ensures conserved { Conserved (state self.new) }
-        ensures law { (start : ℕ → ℕ) (ds : List a-drop) → Law (B.Board.shape board.now) start ds (state self.old) → Law (B.Board.shape board.now) start (with_drop result drop ds) (state self.new) }
+        ensures law { (start : ℕ → ℕ) (ds : List a_drop) → Law (B.Board.shape board.now) start ds (state self.old) → Law (B.Board.shape board.now) start (with_drop result drop ds) (state self.new) }
     {
         if self.heights.len() != board.count() {
             return Err(refused(Row::Memory, 0));

@@ -1,6 +1,6 @@
 // Fire, run and wave: legal firings on an open bench.
 ghost use Rattle.std.specs.Prelude.{◌≡◌, ℕ, List, length};
-ghost use Rattle.bench.specs.declared.GrainDrop.{GrainDrop as a-drop};
+ghost use Rattle.bench.specs.declared.GrainDrop.{GrainDrop as a_drop};
 ghost use Rattle.bench.specs.States.{state, Conserved};
 ghost use Rattle.bench.specs.Avalanches.{Law};
 ghost use Rattle.bench.specs.Answers.{Fired, Ran, Waved};
@@ -17,7 +17,7 @@ impl Bench {
     pub fn fire<B: Board>(&mut self, board: &B, site: usize) -> Result<(), Refusal>
         ensures answer { Fired (B.Board.shape board.now) (state self.old) (state self.new) site result }
         ensures conserved { Conserved (state self.new) }
-        ensures law { (start : ℕ → ℕ) (ds : List a-drop) → Law (B.Board.shape board.now) start ds (state self.old) → Law (B.Board.shape board.now) start ds (state self.new) }
+        ensures law { (start : ℕ → ℕ) (ds : List a_drop) → Law (B.Board.shape board.now) start ds (state self.old) → Law (B.Board.shape board.now) start ds (state self.new) }
     {
         if self.heights.len() != board.count() {
             return Err(refused(Row::Memory, 0));
@@ -52,7 +52,7 @@ impl Bench {
     ) -> Result<RunOutcome, Refusal>
         ensures answer { Ran (B.Board.shape board.now) (state self.old) (state self.new) (length waiting.old) (length bytes.old) budget result }
         ensures conserved { Conserved (state self.new) }
-        ensures law { (start : ℕ → ℕ) (ds : List a-drop) → Law (B.Board.shape board.now) start ds (state self.old) → Law (B.Board.shape board.now) start ds (state self.new) }
+        ensures law { (start : ℕ → ℕ) (ds : List a_drop) → Law (B.Board.shape board.now) start ds (state self.old) → Law (B.Board.shape board.now) start ds (state self.new) }
     {
         let n = board.count();
         if self.heights.len() != n || waiting.len() < n || bytes.len() < n {
@@ -86,7 +86,7 @@ impl Bench {
     pub fn wave<B: Board>(&mut self, board: &B, bytes: &mut [u8]) -> Result<u64, Refusal>
         ensures answer { Waved (B.Board.shape board.now) (state self.old) (state self.new) (length bytes.old) result }
         ensures conserved { Conserved (state self.new) }
-        ensures law { (start : ℕ → ℕ) (ds : List a-drop) → Law (B.Board.shape board.now) start ds (state self.old) → Law (B.Board.shape board.now) start ds (state self.new) }
+        ensures law { (start : ℕ → ℕ) (ds : List a_drop) → Law (B.Board.shape board.now) start ds (state self.old) → Law (B.Board.shape board.now) start ds (state self.new) }
     {
         let n = board.count();
         if self.heights.len() != n || bytes.len() < n {

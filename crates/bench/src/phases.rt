@@ -1,7 +1,7 @@
 // Phases: which event a phase takes; resume and shelve.
 ghost use Rattle.std.specs.Prelude.{◌≡◌, ℕ, List};
-ghost use Rattle.bench.specs.declared.GrainDrop.{GrainDrop as a-drop};
-ghost use Rattle.refusal.specs.declared.Part.TheVariants.{Bench as the-bench};
+ghost use Rattle.bench.specs.declared.GrainDrop.{GrainDrop as a_drop};
+ghost use Rattle.refusal.specs.declared.Part.TheVariants.{Bench as the_bench};
 ghost use Rattle.bench.specs.Phases.{after};
 ghost use Rattle.bench.specs.States.{state, ticket_number, Conserved};
 ghost use Rattle.bench.specs.Avalanches.{Law};
@@ -23,7 +23,7 @@ pub(crate) enum Event {
 
 // A refusal of the bench by this row, at this place.
 pub(crate) fn refused(row: Row, place: u64) -> Refusal
-    ensures { result ≡ record { row = row; place = place; part = the-bench } }
+    ensures { result ≡ record { row = row; place = place; part = the_bench } }
 {
     Refusal {
         row,
@@ -60,7 +60,7 @@ impl Bench {
     pub fn resume<B: Board>(&mut self, board: &B) -> Result<Ticket, Refusal>
         ensures answer { Resumed (B.Board.shape board.now) (state self.old) (state self.new) result }
         ensures conserved { Conserved (state self.new) }
-        ensures law { (start : ℕ → ℕ) (ds : List a-drop) → Law (B.Board.shape board.now) start ds (state self.old) → Law (B.Board.shape board.now) start ds (state self.new) }
+        ensures law { (start : ℕ → ℕ) (ds : List a_drop) → Law (B.Board.shape board.now) start ds (state self.old) → Law (B.Board.shape board.now) start ds (state self.new) }
     {
         if self.heights.len() != board.count() {
             return Err(refused(Row::Memory, 0));
@@ -78,7 +78,7 @@ impl Bench {
     pub fn shelve<B: Board>(&mut self, board: &B, ticket: Ticket) -> Result<u64, (Refusal, Ticket)>
         ensures answer { PutBy (B.Board.shape board.now) (state self.old) (state self.new) ticket result }
         ensures conserved { Conserved (state self.new) }
-        ensures law { (start : ℕ → ℕ) (ds : List a-drop) → Law (B.Board.shape board.now) start ds (state self.old) → Law (B.Board.shape board.now) start ds (state self.new) }
+        ensures law { (start : ℕ → ℕ) (ds : List a_drop) → Law (B.Board.shape board.now) start ds (state self.old) → Law (B.Board.shape board.now) start ds (state self.new) }
     {
         if self.heights.len() != board.count() {
             return Err((refused(Row::Memory, 0), ticket));

@@ -2,14 +2,14 @@
 ghost use Rattle.std.specs.Prelude.{◌≡◌, ℕ, List, [], length};
 ghost use Rattle.bench.specs.States.{state, entries, held as held_in};
 ghost use Rattle.bench.specs.Avalanches.{Law};
-ghost use Rattle.bench.specs.declared.GrainDrop.{GrainDrop as a-drop};
-ghost use Rattle.bench.specs.declared.Record.{Record as a-record};
-ghost use Rattle.refusal.specs.declared.Part.{Part as a-part};
+ghost use Rattle.bench.specs.declared.GrainDrop.{GrainDrop as a_drop};
+ghost use Rattle.bench.specs.declared.Record.{Record as a_record};
+ghost use Rattle.refusal.specs.declared.Part.{Part as a_part};
 ghost use Rattle.play.specs.Plays.{Turn, CloseTurn, ShelveTurn, no_ticket, laid_aside};
 ghost use Rattle.play.specs.LeastCounts.{record_of};
 ghost use Rattle.play.specs.Turns.{Agree, place, Kept, Files};
 ghost use Rattle.play.specs.declared.Call.{Call as a_call};
-ghost use Rattle.play.specs.declared.Call.TheVariants.{Resume as to-resume, Drop as to_drop, Close as to-close, Shelve as to-shelve};
+ghost use Rattle.play.specs.declared.Call.TheVariants.{Resume as to_resume, Drop as to_drop, Close as to_close, Shelve as to_shelve};
 
 use crate::{Answer, Call};
 use bench::{Bench, GrainDrop, Records, Ticket};
@@ -19,9 +19,9 @@ use refusal::{Part, Refusal, Row};
 // The turn of a call to resume.
 fn resume<B: Board>(board: &B, bench: &mut Bench, held: Option<Ticket>) -> (Option<Ticket>, Answer)
     requires { Agree (state bench.old) held }
-    ensures turn { (es : List a-record) (n slots bytes : ℕ) (part : a-part) → Turn (B.Board.shape board.now) part slots bytes (place (state bench.old) held es n) to-resume result.1 (place (state bench.new) result.0 es n) }
+    ensures turn { (es : List a_record) (n slots bytes : ℕ) (part : a_part) → Turn (B.Board.shape board.now) part slots bytes (place (state bench.old) held es n) to_resume result.1 (place (state bench.new) result.0 es n) }
     ensures agree { Agree (state bench.new) result.0 }
-    ensures kept { Kept (B.Board.shape board.now) (state bench.old) to-resume result.1 (state bench.new) }
+    ensures kept { Kept (B.Board.shape board.now) (state bench.old) to_resume result.1 (state bench.new) }
     ensures unfiled { record_of result.1 ≡ [] }
 {
     match held {
@@ -47,7 +47,7 @@ fn drop_grains<B: Board>(
     drop: GrainDrop,
 ) -> (Option<Ticket>, Answer)
     requires { Agree (state bench.old) held }
-    ensures turn { (es : List a-record) (n slots bytes : ℕ) (part : a-part) → Turn (B.Board.shape board.now) part slots bytes (place (state bench.old) held es n) (to_drop drop) result.1 (place (state bench.new) result.0 es n) }
+    ensures turn { (es : List a_record) (n slots bytes : ℕ) (part : a_part) → Turn (B.Board.shape board.now) part slots bytes (place (state bench.old) held es n) (to_drop drop) result.1 (place (state bench.new) result.0 es n) }
     ensures agree { Agree (state bench.new) result.0 }
     ensures kept { Kept (B.Board.shape board.now) (state bench.old) (to_drop drop) result.1 (state bench.new) }
     ensures unfiled { record_of result.1 ≡ [] }
@@ -78,7 +78,7 @@ fn close<B: Board>(
     requires { Agree (state bench.old) held }
     ensures turn { CloseTurn (B.Board.shape board.now) part (place (state bench.old) held (entries records.old) (held_in records.old)) held result.1 (place (state bench.new) result.0 (entries records.new) (held_in records.new)) }
     ensures agree { Agree (state bench.new) result.0 }
-    ensures kept { Kept (B.Board.shape board.now) (state bench.old) to-close result.1 (state bench.new) }
+    ensures kept { Kept (B.Board.shape board.now) (state bench.old) to_close result.1 (state bench.new) }
     ensures filed { Files (entries records.old) (held_in records.old) result.1 (entries records.new) (held_in records.new) }
     ensures same { records.new.slots.ghost_name ≡ records.old.slots.ghost_name }
 {
@@ -99,9 +99,9 @@ fn shelve<B: Board>(
     part: Part,
 ) -> (Option<Ticket>, Answer)
     requires { Agree (state bench.old) held }
-    ensures turn { (es : List a-record) (n : ℕ) → ShelveTurn (B.Board.shape board.now) part (place (state bench.old) held es n) held result.1 (place (state bench.new) result.0 es n) }
+    ensures turn { (es : List a_record) (n : ℕ) → ShelveTurn (B.Board.shape board.now) part (place (state bench.old) held es n) held result.1 (place (state bench.new) result.0 es n) }
     ensures agree { Agree (state bench.new) result.0 }
-    ensures kept { Kept (B.Board.shape board.now) (state bench.old) to-shelve result.1 (state bench.new) }
+    ensures kept { Kept (B.Board.shape board.now) (state bench.old) to_shelve result.1 (state bench.new) }
     ensures unfiled { record_of result.1 ≡ [] }
 {
     match held {
@@ -167,7 +167,7 @@ pub(crate) fn lay_aside<B: Board>(board: &B, bench: &mut Bench, held: Option<Tic
     requires sized { length (state bench.old).heights ≡ (B.Board.shape board.now).sites }
     requires agree { Agree (state bench.old) held }
     ensures aside { state bench.new ≡ laid_aside (state bench.old) held }
-    ensures law { (start : ℕ → ℕ) (ds : List a-drop) → Law (B.Board.shape board.now) start ds (state bench.old) → Law (B.Board.shape board.now) start ds (state bench.new) }
+    ensures law { (start : ℕ → ℕ) (ds : List a_drop) → Law (B.Board.shape board.now) start ds (state bench.old) → Law (B.Board.shape board.now) start ds (state bench.new) }
 {
     match held {
         None => {}

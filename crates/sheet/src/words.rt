@@ -4,7 +4,7 @@ ghost use Rattle.std.specs.Str.Parse.{digits_value};
 ghost use Rattle.sheet.specs.Parts.{Number};
 ghost use Rattle.sheet.specs.Reading.{Short};
 ghost use Rattle.sheet.specs.Letters.{far, amount, end_value};
-ghost use Rattle.sheet.specs.Letters.{number as a-number};
+ghost use Rattle.sheet.specs.Letters.{number as a_number};
 ghost use Rattle.sheet.specs.Reading.{Took, Fails, WordsRead};
 
 use super::reader::{Reader, Word};
@@ -42,7 +42,7 @@ fn digits_value(word: &[u8]) -> Option<u64>
 impl Reader<'_> {
     // The next word as a number, or the column where it fails.
     fn number(&mut self) -> Result<u64, usize>
-        ensures { elim result [ Ok n ↦ Took self.old self.new (amount n) | Err x ↦ Fails a-number self.old x ] }
+        ensures { elim result [ Ok n ↦ Took self.old self.new (amount n) | Err x ↦ Fails a_number self.old x ] }
     {
         match self.word()? {
             Word::Number(part, place) => match decimal(part) {
@@ -84,7 +84,7 @@ impl Reader<'_> {
 
     // One number and the line's end, or the column where the words fail.
     pub(crate) fn one(&mut self) -> Result<u64, usize>
-        ensures { WordsRead self.old (a-number ∷ []) result (λ n. amount n ∷ []) }
+        ensures { WordsRead self.old (a_number ∷ []) result (λ n. amount n ∷ []) }
     {
         let n = self.number()?;
         self.finish()?;
@@ -93,7 +93,7 @@ impl Reader<'_> {
 
     // Two numbers and the line's end.
     pub(crate) fn two(&mut self) -> Result<(u64, u64), usize>
-        ensures { WordsRead self.old (a-number ∷ a-number ∷ []) result (λ p. amount p.0 ∷ amount p.1 ∷ []) }
+        ensures { WordsRead self.old (a_number ∷ a_number ∷ []) result (λ p. amount p.0 ∷ amount p.1 ∷ []) }
     {
         let a = self.number()?;
         let b = self.one()?;
@@ -102,7 +102,7 @@ impl Reader<'_> {
 
     // A site, a far end, a number of links and the line's end.
     pub(crate) fn link(&mut self) -> Result<(u64, End, u64), usize>
-        ensures { WordsRead self.old (a-number ∷ far ∷ a-number ∷ []) result (λ p. amount p.0 ∷ end_value p.1 ∷ amount p.2 ∷ []) }
+        ensures { WordsRead self.old (a_number ∷ far ∷ a_number ∷ []) result (λ p. amount p.0 ∷ end_value p.1 ∷ amount p.2 ∷ []) }
     {
         let site = self.number()?;
         let end = self.far_end()?;
