@@ -42,7 +42,7 @@ fn show(rt: &HostRuntime, call: Call, answer: Answer) -> anyhow::Result<()> {
         Answer::Waved(fired) => println!(rt; "w {fired}")?,
         Answer::Closed(record) => show_record(rt, record)?,
         Answer::Put(number) => println!(rt; "p {number}")?,
-        Answer::Refused(refusal) => println!(rt; "! {} {}", refusal.row.number(), refusal.place)?,
+        Answer::Refused(refusal) => println!(rt; "! {} {}", u8::from(refusal.row), refusal.place)?,
     }
     Ok(())
 }
@@ -95,7 +95,7 @@ fn played<B: Board>(
             show_heights(rt, bench.heights())
         },
         Err((refusal, _memory)) => {
-            println!(rt; "! {} {}", refusal.row.number(), refusal.place)?;
+            println!(rt; "! {} {}", u8::from(refusal.row), refusal.place)?;
             Ok(())
         },
     }
@@ -113,7 +113,7 @@ fn judged<B: Board>(
     let mut bytes = [0; MOST];
     match certify(board, start, counts, end, &mut waiting, &mut bytes) {
         Ok(()) => println!(rt; "certified")?,
-        Err(refusal) => println!(rt; "! {} {}", refusal.row.number(), refusal.place)?,
+        Err(refusal) => println!(rt; "! {} {}", u8::from(refusal.row), refusal.place)?,
     }
     Ok(())
 }

@@ -7,6 +7,7 @@ ghost use Rattle.board.specs.Shape.{Shape, Sound, NextIs, deg, Follows, Degrees}
 pub mod grid;
 pub mod link;
 pub mod list;
+pub mod neighbours;
 
 pub use link::End;
 

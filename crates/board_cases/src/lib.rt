@@ -13,7 +13,7 @@ pub fn told(r: Result<(), Refusal>) -> (u8, u64, Part)
 {
     match r {
         Ok(()) => (0, 0, Part::Sheet),
-        Err(e) => (e.row.number(), e.place, e.part),
+        Err(e) => (u8::from(e.row), e.place, e.part),
     }
 }
 

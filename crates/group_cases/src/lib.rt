@@ -12,7 +12,7 @@ pub fn told<T: Drop>(r: Result<T, Refusal>) -> (u8, u64)
 {
     match r {
         Ok(_) => (0, 0),
-        Err(e) => (e.row.number(), e.place),
+        Err(e) => (u8::from(e.row), e.place),
     }
 }
 
@@ -317,7 +317,7 @@ mod adding {
             assert!(rt; false);
             return Ok(());
         };
-        assert_eq!(rt; (e.row.number(), e.part), (21, Part::Group));
+        assert_eq!(rt; (u8::from(e.row), e.part), (21, Part::Group));
         assert_eq!(rt; answer, [0, 0]);
         Ok(())
     }

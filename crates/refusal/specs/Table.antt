@@ -1,5 +1,5 @@
 -- The refusal table: each row's number, the order in which rows are checked, each part's name.
-use Rattle.std.specs.Prelude.{◌≡◌, ◌⊎◌, Bool, true, false, cond, List, [], ◌∷◌, ℕ, eqb, codes}
+use Rattle.std.specs.Prelude.{◌≡◌, ◌⊎◌, Bool, true, false, cond, List, [], ◌∷◌, ◌++◌, ℕ, eqb, codes, decimal}
 use Rattle.refusal.specs.declared.Row.{Row}
 use Rattle.refusal.specs.declared.Row.TheVariants.{Memory, Limit, Site, NoDrain, Phase, CannotFire, Ceiling, Ticket, NotStill, Byte, Letter, Word, NotFollowing, EndFires, TakenBack, ListFull, CutFull, FewLinks, LayerSet, RecordsFull, Budget}
 use Rattle.refusal.specs.declared.Refusal.{Refusal}
@@ -44,6 +44,10 @@ name Cut = codes "cut"
 name Bench = codes "bench"
 name Certificate = codes "certificate"
 name Group = codes "group"
+
+-- a refusal in words: PART refuses by row ROW at PLACE
+abbrev pub said : Refusal → List ℕ
+said e = name e.part ++ (codes " refuses by row " ++ (decimal (number e.row) ++ (codes " at " ++ decimal e.place)))
 
 -- a check: its row, and when it refuses with which place
 pub record Check : Type 1 where

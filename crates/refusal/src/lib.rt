@@ -1,8 +1,11 @@
 // Refusals: the one table of rows by which every call of the laboratory refuses.
 #![tactic(auto)]
 
-ghost use Rattle.std.specs.Prelude.{◌≡◌};
-ghost use Rattle.refusal.specs.Table.{number, name};
+ghost use Rattle.std.specs.Prelude.{◌≡◌, Some};
+ghost use Rattle.refusal.specs.Table.{number, name, said};
+
+use std::error::Error;
+use std::fmt;
 
 // A row of the table; docs/REFUSALS.md says when each one comes.
 #[derive(Clone, Copy, PartialEq, Eq, Debug)]
@@ -51,12 +54,12 @@ pub struct Refusal {
     pub part: Part,
 }
 
-impl Row {
-    // The row's number in the table.
-    pub fn number(self) -> u8
-        ensures { result ≡ number self }
-    {
-        self as u8
+// The row's number in the table.
+impl From<Row> for u8 {
+    ghost from_gives = { λ row n. n ≡ number row };
+
+    fn from(row: Row) -> u8 {
+        row as u8
     }
 }
 
@@ -76,4 +79,41 @@ impl Part {
             Part::Group => "group",
         }
     }
+
+    // The part's refusal by a row that gives no place.
+    pub fn refuse(self, row: Row) -> Refusal
+        ensures { result ≡ record { row = row; place = 0; part = self } }
+    {
+        self.refuse_at(row, 0)
+    }
+
+    // The part's refusal by a row, at a place.
+    pub fn refuse_at(self, row: Row, place: usize) -> Refusal
+        ensures { result ≡ record { row = row; place = place; part = self } }
+    {
+        Refusal {
+            row,
+            place: place as u64,
+            part: self,
+        }
+    }
 }
+
+impl fmt::Display for Part {
+    ghost output = { λ part. Some (name part) };
+
+    fn fmt<W: fmt::Write>(&self, f: &mut fmt::Formatter<W>) -> fmt::Result {
+        f.write_str(self.name())
+    }
+}
+
+impl fmt::Display for Refusal {
+    ghost output = { λ e. Some (said e) };
+
+    fn fmt<W: fmt::Write>(&self, f: &mut fmt::Formatter<W>) -> fmt::Result {
+        let row = u8::from(self.row);
+        write!(f, "{} refuses by row {row} at {}", self.part, self.place)
+    }
+}
+
+impl Error for Refusal {}

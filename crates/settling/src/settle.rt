@@ -9,6 +9,7 @@ ghost use Rattle.settling.specs.Marks.{Queued, Covered, Waits, WaitRound, Visite
 ghost use Rattle.settling.specs.Settlings.{Noted, Tallied, Ended, Counted, Fit, Checked, SettledBy, settle_checks};
 
 use crate::fire::{all_grains, can_fire, fire_times, is_enough, lowest_ready};
+use board::neighbours::Neighbours;
 use board::{Board, degree};
 use refusal::{Part, Refusal, Row};
 use waiting::WaitingList;
@@ -40,11 +41,8 @@ fn wait_round<B: Board>(board: &B, list: &mut WaitingList<usize>, marks: &mut [u
     ensures round { WaitRound (B.Board.shape board.now) v marks.old (waits list.new) marks.new }
     ensures room { room list.new ≡ room list.old }
 {
-    let mut j = 0;
-    loop {
-        let Some(u) = board.next(v, j) else { break };
+    for u in Neighbours::of(board, v) {
         wait(list, marks, u);
-        j = u + 1;
     }
 }
 

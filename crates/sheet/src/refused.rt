@@ -9,7 +9,7 @@ impl fmt::Display for LineRefusal {
     ghost output = { λ f. Some (refusal_line f) };
 
     fn fmt<W: fmt::Write>(&self, f: &mut fmt::Formatter<W>) -> fmt::Result {
-        let row = self.refusal.row.number();
+        let row = u8::from(self.refusal.row);
         let line = self.line;
         let place = self.refusal.place;
         write!(f, "! {row} {line} {place}")
