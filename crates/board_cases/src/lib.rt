@@ -2,18 +2,17 @@
 #![tactic(auto)]
 
 ghost use Rattle.std.specs.Prelude.{◌≡◌, ℕ, Ok, Err};
-ghost use Rattle.refusal.specs.declared.Part.TheVariants.{Sheet};
 ghost use Rattle.refusal.specs.Table.{number};
 
 use refusal::{Part, Refusal};
 
-// A refusal's row, place and part; 0, 0 and sheet where there is none.
-pub fn told(r: Result<(), Refusal>) -> (u8, u64, Part)
-    ensures { elim r [ Ok _ ↦ result ≡ (0, 0, Sheet) | Err e ↦ result ≡ (number e.row, e.place, e.part) ] }
+// What a call was refused by: row, place and part.
+pub fn told<T: Drop>(r: Result<T, Refusal>) -> Result<(), (u8, u64, Part)>
+    ensures { elim r [ Ok _ ↦ result ≡ Ok tt | Err e ↦ result ≡ Err (number e.row, e.place, e.part) ] }
 {
     match r {
-        Ok(()) => (0, 0, Part::Sheet),
-        Err(e) => (u8::from(e.row), e.place, e.part),
+        Ok(_) => Ok(()),
+        Err(e) => Err((u8::from(e.row), e.place, e.part)),
     }
 }
 
@@ -27,18 +26,12 @@ mod boards {
     use ring::Ring;
     use std::test::Fail;
 
-    fn sides(rows: usize, columns: usize) -> (u8, u64, Part) {
-        match Grid::new(rows, columns) {
-            Ok(_) => told(Ok(())),
-            Err(e) => told(Err(e)),
-        }
+    fn sides(rows: usize, columns: usize) -> Result<(), (u8, u64, Part)> {
+        told(Grid::new(rows, columns))
     }
 
-    fn sites(n: usize) -> (u8, u64, Part) {
-        match LinkList::new(n) {
-            Ok(_) => told(Ok(())),
-            Err(e) => told(Err(e)),
-        }
+    fn sites(n: usize) -> Result<(), (u8, u64, Part)> {
+        told(LinkList::new(n))
     }
 
     #[test]
@@ -88,13 +81,13 @@ mod boards {
 
     #[test]
     fn sides_beyond_their_limits(rt: HostRuntime) {
-        assert_eq!(rt; sides(0, 1), (2, 0, Part::Board));
-        assert_eq!(rt; sides(65, 1), (2, 0, Part::Board));
-        assert_eq!(rt; sides(1, 0), (2, 0, Part::Board));
-        assert_eq!(rt; sides(1, 65), (2, 0, Part::Board));
-        assert_eq!(rt; sides(64, 64), (0, 0, Part::Sheet));
-        assert_eq!(rt; sites(0), (2, 0, Part::Board));
-        assert_eq!(rt; sites(4097), (2, 0, Part::Board));
+        assert_eq!(rt; sides(0, 1), Err((2, 0, Part::Board)));
+        assert_eq!(rt; sides(65, 1), Err((2, 0, Part::Board)));
+        assert_eq!(rt; sides(1, 0), Err((2, 0, Part::Board)));
+        assert_eq!(rt; sides(1, 65), Err((2, 0, Part::Board)));
+        assert_eq!(rt; sides(64, 64), Ok(()));
+        assert_eq!(rt; sites(0), Err((2, 0, Part::Board)));
+        assert_eq!(rt; sites(4097), Err((2, 0, Part::Board)));
     }
 
     #[test]
@@ -136,18 +129,21 @@ mod boards {
     #[test]
     fn numbers_before_sites(rt: HostRuntime) -> Result<(), Fail> {
         let mut list = LinkList::new(1)?;
-        assert_eq!(rt; told(list.add(0, End::Drain, 0)), (2, 0, Part::Board));
+        assert_eq!(rt; told(list.add(0, End::Drain, 0)), Err((2, 0, Part::Board)));
         assert_eq!(rt;
             told(list.add(0, End::Site(0), 250_001)),
-            (2, 0, Part::Board)
+            Err((2, 0, Part::Board))
         );
-        assert_eq!(rt; told(list.add(7, End::Drain, 500_001)), (2, 0, Part::Board));
+        assert_eq!(rt;
+            told(list.add(7, End::Drain, 500_001)),
+            Err((2, 0, Part::Board))
+        );
         assert_eq!(rt;
             told(list.add(0, End::Site(0), 250_000)),
-            (3, 0, Part::Board)
+            Err((3, 0, Part::Board))
         );
-        assert_eq!(rt; told(list.add(0, End::Drain, 500_000)), (0, 0, Part::Sheet));
-        assert_eq!(rt; told(list.add(0, End::Drain, 1)), (2, 0, Part::Board));
+        assert_eq!(rt; told(list.add(0, End::Drain, 500_000)), Ok(()));
+        assert_eq!(rt; told(list.add(0, End::Drain, 1)), Err((2, 0, Part::Board)));
         assert_eq!(rt; list.drain(0), 500_000);
         Ok(())
     }
@@ -155,13 +151,22 @@ mod boards {
     #[test]
     fn sites_off_the_list(rt: HostRuntime) -> Result<(), Fail> {
         let mut list = LinkList::new(3)?;
-        assert_eq!(rt; told(list.add(3, End::Drain, 1)), (3, 3, Part::Board));
-        assert_eq!(rt; told(list.add(0, End::Site(3), 1)), (3, 3, Part::Board));
-        assert_eq!(rt; told(list.add(9, End::Site(8), 1)), (3, 9, Part::Board));
-        assert_eq!(rt; told(list.add(2, End::Site(2), 1)), (3, 2, Part::Board));
+        assert_eq!(rt; told(list.add(3, End::Drain, 1)), Err((3, 3, Part::Board)));
+        assert_eq!(rt;
+            told(list.add(0, End::Site(3), 1)),
+            Err((3, 3, Part::Board))
+        );
+        assert_eq!(rt;
+            told(list.add(9, End::Site(8), 1)),
+            Err((3, 9, Part::Board))
+        );
+        assert_eq!(rt;
+            told(list.add(2, End::Site(2), 1)),
+            Err((3, 2, Part::Board))
+        );
         assert_eq!(rt;
             told(list.add(9_999_999_999_999, End::Drain, 1)),
-            (3, 9_999_999_999_999, Part::Board)
+            Err((3, 9_999_999_999_999, Part::Board))
         );
         assert_eq!(rt;
             (list.drain(0), list.links(0, 2), list.next(0, 0)),
@@ -181,8 +186,8 @@ mod boards {
     fn the_list_is_full(rt: HostRuntime) -> Result<(), Fail> {
         let mut list = LinkList::new(1)?;
         fill(&mut list)?;
-        assert_eq!(rt; told(list.add(0, End::Drain, 1)), (16, 0, Part::Board));
-        assert_eq!(rt; told(list.add(1, End::Drain, 1)), (3, 1, Part::Board));
+        assert_eq!(rt; told(list.add(0, End::Drain, 1)), Err((16, 0, Part::Board)));
+        assert_eq!(rt; told(list.add(1, End::Drain, 1)), Err((3, 1, Part::Board)));
         assert_eq!(rt; list.drain(0), 4096);
         Ok(())
     }
@@ -270,13 +275,13 @@ mod layers {
     #[test]
     fn earth_refuses(rt: HostRuntime) -> Result<(), Fail> {
         let mut only = Earth::idle(Grid::new(1, 1)?);
-        assert_eq!(rt; told(only.earth(5)), (3, 5, Part::Earth));
-        assert_eq!(rt; told(only.earth(0)), (19, 0, Part::Earth));
+        assert_eq!(rt; told(only.earth(5)), Err((3, 5, Part::Earth)));
+        assert_eq!(rt; told(only.earth(0)), Err((19, 0, Part::Earth)));
         assert_eq!(rt; (only.count(), only.drain(0)), (1, 4));
         let mut earth = Earth::idle(Grid::new(1, 2)?);
-        assert_eq!(rt; told(earth.earth(0)), (0, 0, Part::Sheet));
-        assert_eq!(rt; told(earth.earth(1)), (19, 0, Part::Earth));
-        assert_eq!(rt; told(earth.earth(2)), (3, 2, Part::Earth));
+        assert_eq!(rt; told(earth.earth(0)), Ok(()));
+        assert_eq!(rt; told(earth.earth(1)), Err((19, 0, Part::Earth)));
+        assert_eq!(rt; told(earth.earth(2)), Err((3, 2, Part::Earth)));
         assert_eq!(rt; (earth.count(), earth.drain(0)), (1, 4));
         Ok(())
     }
@@ -284,11 +289,11 @@ mod layers {
     #[test]
     fn merge_refuses(rt: HostRuntime) -> Result<(), Fail> {
         let mut merge = Merge::idle(Grid::new(1, 2)?);
-        assert_eq!(rt; told(merge.merge(5, 0)), (3, 5, Part::Merge));
-        assert_eq!(rt; told(merge.merge(0, 6)), (3, 6, Part::Merge));
-        assert_eq!(rt; told(merge.merge(1, 1)), (3, 1, Part::Merge));
-        assert_eq!(rt; told(merge.merge(1, 0)), (0, 0, Part::Sheet));
-        assert_eq!(rt; told(merge.merge(0, 1)), (19, 0, Part::Merge));
+        assert_eq!(rt; told(merge.merge(5, 0)), Err((3, 5, Part::Merge)));
+        assert_eq!(rt; told(merge.merge(0, 6)), Err((3, 6, Part::Merge)));
+        assert_eq!(rt; told(merge.merge(1, 1)), Err((3, 1, Part::Merge)));
+        assert_eq!(rt; told(merge.merge(1, 0)), Ok(()));
+        assert_eq!(rt; told(merge.merge(0, 1)), Err((19, 0, Part::Merge)));
         assert_eq!(rt;
             (merge.count(), merge.drain(0), merge.next(0, 0)),
             (1, 6, None)
@@ -299,15 +304,15 @@ mod layers {
     #[test]
     fn cut_refuses(rt: HostRuntime) -> Result<(), Fail> {
         let mut cut = Cut::idle(Grid::new(1, 2)?);
-        assert_eq!(rt; told(cut.cut(0, End::Site(1), 0)), (2, 0, Part::Cut));
-        assert_eq!(rt; told(cut.cut(9, End::Drain, 1)), (3, 9, Part::Cut));
-        assert_eq!(rt; told(cut.cut(0, End::Site(0), 1)), (3, 0, Part::Cut));
+        assert_eq!(rt; told(cut.cut(0, End::Site(1), 0)), Err((2, 0, Part::Cut)));
+        assert_eq!(rt; told(cut.cut(9, End::Drain, 1)), Err((3, 9, Part::Cut)));
+        assert_eq!(rt; told(cut.cut(0, End::Site(0), 1)), Err((3, 0, Part::Cut)));
         assert_eq!(rt;
             told(cut.cut(0, End::Site(1), u64::MAX)),
-            (18, 0, Part::Cut)
+            Err((18, 0, Part::Cut))
         );
-        assert_eq!(rt; told(cut.cut(1, End::Drain, 2)), (0, 0, Part::Sheet));
-        assert_eq!(rt; told(cut.cut(1, End::Drain, 2)), (18, 0, Part::Cut));
+        assert_eq!(rt; told(cut.cut(1, End::Drain, 2)), Ok(()));
+        assert_eq!(rt; told(cut.cut(1, End::Drain, 2)), Err((18, 0, Part::Cut)));
         assert_eq!(rt; (cut.drain(1), cut.links(0, 1)), (1, 1));
         Ok(())
     }
@@ -323,9 +328,9 @@ mod layers {
     fn the_cut_is_full(rt: HostRuntime) -> Result<(), Fail> {
         let mut cut = Cut::idle(Grid::new(1, 64)?);
         fill(&mut cut)?;
-        assert_eq!(rt; told(cut.cut(32, End::Drain, 1)), (17, 0, Part::Cut));
-        assert_eq!(rt; told(cut.cut(5, End::Drain, 1)), (0, 0, Part::Sheet));
-        assert_eq!(rt; told(cut.cut(5, End::Drain, 1)), (18, 0, Part::Cut));
+        assert_eq!(rt; told(cut.cut(32, End::Drain, 1)), Err((17, 0, Part::Cut)));
+        assert_eq!(rt; told(cut.cut(5, End::Drain, 1)), Ok(()));
+        assert_eq!(rt; told(cut.cut(5, End::Drain, 1)), Err((18, 0, Part::Cut)));
         assert_eq!(rt; (cut.drain(5), cut.drain(4), cut.drain(32)), (0, 1, 2));
         Ok(())
     }

@@ -13,7 +13,12 @@ mod verdicts {
     use std::test::Fail;
 
     // The verdict over work memory that read anything before.
-    fn on<B: Board>(board: &B, start: &[u64], counts: &[u64], end: &[u64]) -> (u8, u64, Part) {
+    fn on<B: Board>(
+        board: &B,
+        start: &[u64],
+        counts: &[u64],
+        end: &[u64],
+    ) -> Result<(), (u8, u64, Part)> {
         let mut waiting = [7; 4];
         let mut bytes = [1; 4];
         told(certify(board, start, counts, end, &mut waiting, &mut bytes))
@@ -22,15 +27,15 @@ mod verdicts {
     #[test]
     fn a_pair(rt: HostRuntime) -> Result<(), Fail> {
         let pair = Grid::new(1, 2)?;
-        assert_eq!(rt; on(&pair, &[4, 3], &[1, 1], &[1, 0]), (0, 0, Part::Sheet));
-        assert_eq!(rt; on(&pair, &[3, 3], &[0, 0], &[3, 3]), (0, 0, Part::Sheet));
+        assert_eq!(rt; on(&pair, &[4, 3], &[1, 1], &[1, 0]), Ok(()));
+        assert_eq!(rt; on(&pair, &[3, 3], &[0, 0], &[3, 3]), Ok(()));
         assert_eq!(rt;
             on(&pair, &[4, 3], &[1, 0], &[0, 4]),
-            (14, 1, Part::Certificate)
+            Err((14, 1, Part::Certificate))
         );
         assert_eq!(rt;
             on(&pair, &[3, 3], &[1, 1], &[0, 0]),
-            (15, 0, Part::Certificate)
+            Err((15, 0, Part::Certificate))
         );
         Ok(())
     }
@@ -40,20 +45,20 @@ mod verdicts {
         let row = Grid::new(1, 4)?;
         assert_eq!(rt;
             on(&row, &[0, 0, 3, 3], &[0, 0, 1, 1], &[0, 1, 0, 0]),
-            (15, 2, Part::Certificate)
+            Err((15, 2, Part::Certificate))
         );
         assert_eq!(rt;
             on(&row, &[2, 2, 2, 2], &[1, 1, 1, 1], &[0, 0, 0, 0]),
-            (13, 0, Part::Certificate)
+            Err((13, 0, Part::Certificate))
         );
         assert_eq!(rt;
             on(&row, &[3, 2, 2, 3], &[1, 1, 1, 1], &[0, 0, 0, 0]),
-            (15, 0, Part::Certificate)
+            Err((15, 0, Part::Certificate))
         );
         // 2 leaves the set, then 1, then 0
         assert_eq!(rt;
             on(&row, &[3, 3, 4, 0], &[1, 1, 1, 0], &[0, 1, 1, 1]),
-            (0, 0, Part::Sheet)
+            Ok(())
         );
         Ok(())
     }
@@ -63,21 +68,21 @@ mod verdicts {
         let pair = Grid::new(1, 2)?;
         assert_eq!(rt;
             on(&pair, &[4, 3], &[1, 1], &[1, 1]),
-            (13, 1, Part::Certificate)
+            Err((13, 1, Part::Certificate))
         );
         assert_eq!(rt;
             on(&pair, &[4, 3], &[1, 1], &[0, 1]),
-            (13, 0, Part::Certificate)
+            Err((13, 0, Part::Certificate))
         );
         // the formula gives 1 and −19
         assert_eq!(rt;
             on(&pair, &[0, 0], &[1, 5], &[1, 0]),
-            (13, 1, Part::Certificate)
+            Err((13, 1, Part::Certificate))
         );
         // before an end that can fire
         assert_eq!(rt;
             on(&pair, &[4, 3], &[0, 0], &[4, 4]),
-            (13, 1, Part::Certificate)
+            Err((13, 1, Part::Certificate))
         );
         Ok(())
     }
@@ -87,23 +92,23 @@ mod verdicts {
         let pair = Grid::new(1, 2)?;
         assert_eq!(rt;
             on(&pair, &[1_000_000, 0], &[0, 0], &[1_000_000, 0]),
-            (14, 0, Part::Certificate)
+            Err((14, 0, Part::Certificate))
         );
         assert_eq!(rt;
             on(&pair, &[0, 0], &[1_000_000_000_000, 0], &[0, 0]),
-            (13, 0, Part::Certificate)
+            Err((13, 0, Part::Certificate))
         );
         assert_eq!(rt;
             on(&pair, &[0, 1_000_001], &[0, 0], &[0, 0]),
-            (2, 0, Part::Certificate)
+            Err((2, 0, Part::Certificate))
         );
         assert_eq!(rt;
             on(&pair, &[0, 0], &[0, 1_000_000_000_001], &[0, 0]),
-            (2, 0, Part::Certificate)
+            Err((2, 0, Part::Certificate))
         );
         assert_eq!(rt;
             on(&pair, &[0, 0], &[0, 0], &[0, 1_000_001]),
-            (2, 0, Part::Certificate)
+            Err((2, 0, Part::Certificate))
         );
         Ok(())
     }
@@ -113,28 +118,28 @@ mod verdicts {
         let pair = Grid::new(1, 2)?;
         assert_eq!(rt;
             on(&pair, &[4], &[1, 1], &[1, 0]),
-            (1, 0, Part::Certificate)
+            Err((1, 0, Part::Certificate))
         );
         assert_eq!(rt;
             on(&pair, &[4, 3, 0], &[1, 1], &[1, 0]),
-            (1, 0, Part::Certificate)
+            Err((1, 0, Part::Certificate))
         );
         assert_eq!(rt;
             on(&pair, &[4, 3], &[1], &[1, 0]),
-            (1, 0, Part::Certificate)
+            Err((1, 0, Part::Certificate))
         );
         assert_eq!(rt;
             on(&pair, &[4, 3], &[1, 1, 0], &[1, 0]),
-            (1, 0, Part::Certificate)
+            Err((1, 0, Part::Certificate))
         );
         assert_eq!(rt;
             on(&pair, &[4, 3], &[1, 1], &[1]),
-            (1, 0, Part::Certificate)
+            Err((1, 0, Part::Certificate))
         );
         // before a limit
         assert_eq!(rt;
             on(&pair, &[4, 3], &[1, 1], &[1, 0, 1_000_001]),
-            (1, 0, Part::Certificate)
+            Err((1, 0, Part::Certificate))
         );
         Ok(())
     }
@@ -148,15 +153,15 @@ mod verdicts {
         let mut bytes = [0; 2];
         assert_eq!(rt;
             told(certify(&pair, &[4, 3], &[1, 1], &[1, 0], &mut one, &mut bytes)),
-            (1, 0, Part::Certificate)
+            Err((1, 0, Part::Certificate))
         );
         assert_eq!(rt;
             told(certify(&pair, &[4, 3], &[1, 1], &[1, 0], &mut two, &mut byte)),
-            (1, 0, Part::Certificate)
+            Err((1, 0, Part::Certificate))
         );
         assert_eq!(rt;
             told(certify(&pair, &[4, 3], &[1, 1], &[1, 0], &mut two, &mut bytes)),
-            (0, 0, Part::Sheet)
+            Ok(())
         );
         Ok(())
     }
@@ -168,16 +173,16 @@ mod verdicts {
         list.add(1, End::Site(2), 2)?;
         assert_eq!(rt;
             on(&list, &[0, 0, 0, 0], &[0, 0, 0, 0], &[0, 0, 0, 0]),
-            (4, 1, Part::Certificate)
+            Err((4, 1, Part::Certificate))
         );
         // before an end that does not follow, behind a limit
         assert_eq!(rt;
             on(&list, &[0, 0, 0, 0], &[0, 0, 0, 0], &[1, 0, 0, 0]),
-            (4, 1, Part::Certificate)
+            Err((4, 1, Part::Certificate))
         );
         assert_eq!(rt;
             on(&list, &[0, 0, 0, 1_000_001], &[0, 0, 0, 0], &[0, 0, 0, 0]),
-            (2, 0, Part::Certificate)
+            Err((2, 0, Part::Certificate))
         );
         Ok(())
     }
@@ -185,13 +190,10 @@ mod verdicts {
     #[test]
     fn a_board_of_a_client(rt: HostRuntime) -> Result<(), Fail> {
         let ring = Ring::new(3)?;
-        assert_eq!(rt;
-            on(&ring, &[0, 2, 1], &[0, 1, 1], &[2, 1, 0]),
-            (0, 0, Part::Sheet)
-        );
+        assert_eq!(rt; on(&ring, &[0, 2, 1], &[0, 1, 1], &[2, 1, 0]), Ok(()));
         assert_eq!(rt;
             on(&ring, &[2, 1, 1], &[1, 1, 1], &[1, 1, 1]),
-            (15, 0, Part::Certificate)
+            Err((15, 0, Part::Certificate))
         );
         Ok(())
     }

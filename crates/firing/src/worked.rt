@@ -3,15 +3,11 @@ ghost use Rattle.firing.specs.Worked.{Worked};
 ghost use Rattle.firing.specs.Checks.{Checks};
 
 // Small grids whose figures are known.
-pub fn results() -> u8
+pub fn results()
     ensures { Worked }
-{
-    0
-}
+{}
 
 // An example for each definition that would fail if it said something else.
-pub fn examples_hold() -> u8
+pub fn examples_hold()
     ensures { Checks }
-{
-    0
-}
+{}

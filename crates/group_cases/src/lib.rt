@@ -6,13 +6,13 @@ ghost use Rattle.refusal.specs.Table.{number};
 
 use refusal::Refusal;
 
-// A refusal's row and place; 0 and 0 where there is none.
-pub fn told<T: Drop>(r: Result<T, Refusal>) -> (u8, u64)
-    ensures { elim r [ Ok _ ↦ result ≡ (0, 0) | Err e ↦ result ≡ (number e.row, e.place) ] }
+// What a call was refused by: row and place.
+pub fn told<T: Drop>(r: Result<T, Refusal>) -> Result<(), (u8, u64)>
+    ensures { elim r [ Ok _ ↦ result ≡ Ok tt | Err e ↦ result ≡ Err (number e.row, e.place) ] }
 {
-    match r {
-        Ok(_) => (0, 0),
-        Err(e) => (u8::from(e.row), e.place),
+    match board_cases::told(r) {
+        Ok(()) => Ok(()),
+        Err((row, place, _)) => Err((row, place)),
     }
 }
 
@@ -55,24 +55,39 @@ mod settlings {
         waiting: &mut [usize],
         marks: &mut [u8],
         budget: u64,
-    ) -> Result<(u8, u64), Refusal> {
+    ) -> Result<Result<(), (u8, u64)>, Refusal> {
         let grid = Grid::new(1, 2)?;
         Ok(told(settle(&grid, heights, waiting, marks, budget, Part::Bench)))
     }
 
     #[test]
     fn settle_refuses(rt: HostRuntime) -> Result<(), Fail> {
-        assert_eq!(rt; lent(&mut [0; 1], &mut [0; 2], &mut [0; 2], 1)?, (1, 0));
-        assert_eq!(rt; lent(&mut [0; 3], &mut [0; 2], &mut [0; 2], 1)?, (1, 0));
-        assert_eq!(rt; lent(&mut [0; 2], &mut [0; 1], &mut [0; 2], 1)?, (1, 0));
-        assert_eq!(rt; lent(&mut [0; 2], &mut [0; 2], &mut [0; 1], 0)?, (1, 0));
-        assert_eq!(rt; lent(&mut [0; 2], &mut [0; 2], &mut [0; 2], 0)?, (2, 0));
+        assert_eq!(rt;
+            lent(&mut [0; 1], &mut [0; 2], &mut [0; 2], 1)?,
+            Err((1, 0))
+        );
+        assert_eq!(rt;
+            lent(&mut [0; 3], &mut [0; 2], &mut [0; 2], 1)?,
+            Err((1, 0))
+        );
+        assert_eq!(rt;
+            lent(&mut [0; 2], &mut [0; 1], &mut [0; 2], 1)?,
+            Err((1, 0))
+        );
+        assert_eq!(rt;
+            lent(&mut [0; 2], &mut [0; 2], &mut [0; 1], 0)?,
+            Err((1, 0))
+        );
+        assert_eq!(rt;
+            lent(&mut [0; 2], &mut [0; 2], &mut [0; 2], 0)?,
+            Err((2, 0))
+        );
         assert_eq!(rt;
             lent(&mut [0; 2], &mut [0; 3], &mut [0; 3], 1_000_000_001)?,
-            (2, 0)
+            Err((2, 0))
         );
         let mut heavy = [999_999, 2];
-        assert_eq!(rt; lent(&mut heavy, &mut [0; 2], &mut [0; 2], 1)?, (2, 0));
+        assert_eq!(rt; lent(&mut heavy, &mut [0; 2], &mut [0; 2], 1)?, Err((2, 0)));
         assert_eq!(rt; heavy, [999_999, 2]);
         Ok(())
     }
@@ -119,11 +134,11 @@ mod settlings {
         );
         assert_eq!(rt;
             told(reach(&list, &mut [0usize; 4], &mut [0; 5], Part::Bench)),
-            (1, 0)
+            Err((1, 0))
         );
         assert_eq!(rt;
             told(reach(&list, &mut [0usize; 5], &mut [0; 4], Part::Bench)),
-            (1, 0)
+            Err((1, 0))
         );
         Ok(())
     }
@@ -145,7 +160,7 @@ mod burnings {
         rounds: &mut [u32],
         waiting: &mut [Burnt],
         bytes: &mut [u8],
-    ) -> Result<(u8, u64), Refusal> {
+    ) -> Result<Result<(), (u8, u64)>, Refusal> {
         let grid = Grid::new(1, 2)?;
         Ok(told(burn(&grid, heights, rounds, waiting, bytes)))
     }
@@ -155,23 +170,23 @@ mod burnings {
         let mut rounds = [9, 9];
         assert_eq!(rt;
             lent(&[0; 3], &mut rounds, &mut [FREE; 2], &mut [0; 2])?,
-            (1, 0)
+            Err((1, 0))
         );
         assert_eq!(rt;
             lent(&[0; 2], &mut [0; 1], &mut [FREE; 2], &mut [0; 2])?,
-            (1, 0)
+            Err((1, 0))
         );
         assert_eq!(rt;
             lent(&[0; 2], &mut rounds, &mut [FREE; 1], &mut [0; 2])?,
-            (1, 0)
+            Err((1, 0))
         );
         assert_eq!(rt;
             lent(&[0; 2], &mut rounds, &mut [FREE; 2], &mut [0; 1])?,
-            (1, 0)
+            Err((1, 0))
         );
         assert_eq!(rt;
             lent(&[3, u64::MAX], &mut rounds, &mut [FREE; 2], &mut [0; 2])?,
-            (9, 1)
+            Err((9, 1))
         );
         assert_eq!(rt; rounds, [9, 9]);
         assert_eq!(rt;
@@ -182,7 +197,7 @@ mod burnings {
                 &mut [FREE; 5],
                 &mut [0; 5],
             )),
-            (4, 1)
+            Err((4, 1))
         );
         Ok(())
     }
@@ -215,13 +230,17 @@ mod adding {
         answer: &mut [u64],
         waiting: &mut [usize],
         bytes: &mut [u8],
-    ) -> Result<(u8, u64), Refusal> {
+    ) -> Result<Result<(), (u8, u64)>, Refusal> {
         let grid = Grid::new(1, 2)?;
         Ok(told(sum(&grid, a, b, answer, waiting, bytes, 9)))
     }
 
     // The sum on the grid 1×2, in memory that read 7 before.
-    fn pair(a: [u64; 2], b: [u64; 2], budget: u64) -> Result<((u8, u64), [u64; 2]), Refusal> {
+    fn pair(
+        a: [u64; 2],
+        b: [u64; 2],
+        budget: u64,
+    ) -> Result<(Result<(), (u8, u64)>, [u64; 2]), Refusal> {
         let grid = Grid::new(1, 2)?;
         let mut answer = [7, 7];
         let r = told(sum(&grid, &a, &b, &mut answer, &mut [0; 2], &mut [0; 2], budget));
@@ -232,38 +251,38 @@ mod adding {
     fn memory_that_does_not_fit(rt: HostRuntime) -> Result<(), Fail> {
         assert_eq!(rt;
             lent(&[0; 1], &[0; 2], &mut [0; 2], &mut [0; 2], &mut [0; 2])?,
-            (1, 0)
+            Err((1, 0))
         );
         assert_eq!(rt;
             lent(&[0; 2], &[0; 3], &mut [0; 2], &mut [0; 2], &mut [0; 2])?,
-            (1, 0)
+            Err((1, 0))
         );
         assert_eq!(rt;
             lent(&[0; 2], &[0; 2], &mut [0; 3], &mut [0; 2], &mut [0; 2])?,
-            (1, 0)
+            Err((1, 0))
         );
         assert_eq!(rt;
             lent(&[0; 2], &[0; 2], &mut [0; 2], &mut [0; 1], &mut [0; 2])?,
-            (1, 0)
+            Err((1, 0))
         );
         assert_eq!(rt;
             lent(&[0; 2], &[0; 2], &mut [0; 2], &mut [0; 2], &mut [0; 1])?,
-            (1, 0)
+            Err((1, 0))
         );
         assert_eq!(rt;
             lent(&[0; 2], &[0; 2], &mut [0; 2], &mut [0; 3], &mut [0; 3])?,
-            (0, 0)
+            Ok(())
         );
         Ok(())
     }
 
     #[test]
     fn refused_in_the_order_of_rows(rt: HostRuntime) -> Result<(), Fail> {
-        assert_eq!(rt; pair([4, 4], [4, 4], 0)?, ((2, 0), [7, 7]));
-        assert_eq!(rt; pair([0, 0], [0, 0], 1_000_000_001)?, ((2, 0), [7, 7]));
-        assert_eq!(rt; pair([0, u64::MAX], [4, 0], 9)?, ((9, 1), [7, 7]));
-        assert_eq!(rt; pair([3, 3], [0, 4], 9)?, ((9, 1), [7, 7]));
-        assert_eq!(rt; pair([4, 0], [0, 4], 9)?, ((9, 0), [7, 7]));
+        assert_eq!(rt; pair([4, 4], [4, 4], 0)?, (Err((2, 0)), [7, 7]));
+        assert_eq!(rt; pair([0, 0], [0, 0], 1_000_000_001)?, (Err((2, 0)), [7, 7]));
+        assert_eq!(rt; pair([0, u64::MAX], [4, 0], 9)?, (Err((9, 1)), [7, 7]));
+        assert_eq!(rt; pair([3, 3], [0, 4], 9)?, (Err((9, 1)), [7, 7]));
+        assert_eq!(rt; pair([4, 0], [0, 4], 9)?, (Err((9, 0)), [7, 7]));
         let mut answer = [7; 5];
         assert_eq!(rt;
             told(sum(
@@ -275,7 +294,7 @@ mod adding {
                 &mut [0; 5],
                 9,
             )),
-            (4, 1)
+            Err((4, 1))
         );
         assert_eq!(rt; answer, [7; 5]);
         Ok(())
@@ -283,10 +302,10 @@ mod adding {
 
     #[test]
     fn sums_of_a_pair(rt: HostRuntime) -> Result<(), Fail> {
-        assert_eq!(rt; pair([1, 2], [1, 1], 1)?, ((0, 0), [2, 3]));
-        assert_eq!(rt; pair([3, 3], [1, 0], 2)?, ((0, 0), [1, 0]));
-        assert_eq!(rt; pair([3, 3], [1, 0], 1_000_000_000)?, ((0, 0), [1, 0]));
-        assert_eq!(rt; pair([3, 3], [1, 0], 1)?, ((21, 0), [0, 0]));
+        assert_eq!(rt; pair([1, 2], [1, 1], 1)?, (Ok(()), [2, 3]));
+        assert_eq!(rt; pair([3, 3], [1, 0], 2)?, (Ok(()), [1, 0]));
+        assert_eq!(rt; pair([3, 3], [1, 0], 1_000_000_000)?, (Ok(()), [1, 0]));
+        assert_eq!(rt; pair([3, 3], [1, 0], 1)?, (Err((21, 0)), [0, 0]));
         Ok(())
     }
 
@@ -338,7 +357,7 @@ mod identities {
         waiting: &mut [usize],
         bytes: &mut [u8],
         budget: u64,
-    ) -> Result<(u8, u64), Refusal> {
+    ) -> Result<Result<(), (u8, u64)>, Refusal> {
         let grid = Grid::new(2, 2)?;
         Ok(told(identity(&grid, answer, waiting, bytes, budget)))
     }
@@ -346,20 +365,35 @@ mod identities {
     #[test]
     fn identity_refuses(rt: HostRuntime) -> Result<(), Fail> {
         let mut answer = [7; 4];
-        assert_eq!(rt; lent(&mut [0; 3], &mut [0; 4], &mut [0; 4], 8)?, (1, 0));
-        assert_eq!(rt; lent(&mut [0; 5], &mut [0; 4], &mut [0; 4], 8)?, (1, 0));
-        assert_eq!(rt; lent(&mut answer, &mut [0; 3], &mut [0; 4], 8)?, (1, 0));
-        assert_eq!(rt; lent(&mut answer, &mut [0; 4], &mut [0; 3], 0)?, (1, 0));
-        assert_eq!(rt; lent(&mut answer, &mut [0; 4], &mut [0; 4], 0)?, (2, 0));
+        assert_eq!(rt;
+            lent(&mut [0; 3], &mut [0; 4], &mut [0; 4], 8)?,
+            Err((1, 0))
+        );
+        assert_eq!(rt;
+            lent(&mut [0; 5], &mut [0; 4], &mut [0; 4], 8)?,
+            Err((1, 0))
+        );
+        assert_eq!(rt;
+            lent(&mut answer, &mut [0; 3], &mut [0; 4], 8)?,
+            Err((1, 0))
+        );
+        assert_eq!(rt;
+            lent(&mut answer, &mut [0; 4], &mut [0; 3], 0)?,
+            Err((1, 0))
+        );
+        assert_eq!(rt;
+            lent(&mut answer, &mut [0; 4], &mut [0; 4], 0)?,
+            Err((2, 0))
+        );
         assert_eq!(rt;
             lent(&mut answer, &mut [0; 4], &mut [0; 4], 1_000_000_001)?,
-            (2, 0)
+            Err((2, 0))
         );
         assert_eq!(rt; answer, [7; 4]);
         let mut five = [7; 5];
         assert_eq!(rt;
             told(identity(&islands()?, &mut five, &mut [0; 5], &mut [0; 5], 8)),
-            (4, 1)
+            Err((4, 1))
         );
         assert_eq!(rt; five, [7; 5]);
         Ok(())
@@ -368,12 +402,18 @@ mod identities {
     #[test]
     fn identity_of_a_square(rt: HostRuntime) -> Result<(), Fail> {
         let mut answer = [7; 4];
-        assert_eq!(rt; lent(&mut answer, &mut [0; 4], &mut [0; 4], 8)?, (0, 0));
+        assert_eq!(rt; lent(&mut answer, &mut [0; 4], &mut [0; 4], 8)?, Ok(()));
         assert_eq!(rt; answer, [2; 4]);
-        assert_eq!(rt; lent(&mut answer, &mut [0; 4], &mut [0; 4], 7)?, (21, 0));
+        assert_eq!(rt;
+            lent(&mut answer, &mut [0; 4], &mut [0; 4], 7)?,
+            Err((21, 0))
+        );
         assert_eq!(rt; answer, [0; 4]);
         let mut other = [7; 4];
-        assert_eq!(rt; lent(&mut other, &mut [0; 4], &mut [0; 4], 1)?, (21, 0));
+        assert_eq!(rt;
+            lent(&mut other, &mut [0; 4], &mut [0; 4], 1)?,
+            Err((21, 0))
+        );
         assert_eq!(rt; other, [0; 4]);
         Ok(())
     }

@@ -1,0 +1,90 @@
+#!/usr/bin/env python3
+"""Counts, in crates/*/src, the places where today's Rattle has a plainer form: tools/places.py [-l] [POINT]. -l lists them."""
+import glob
+import re
+import sys
+
+# For each point: what is looked for, and the pattern of a place (tests are left out by cutting a file at its first cfg(test)).
+POINTS = {
+    "1": [
+        ("a number that means nothing", r"-> u8\n(?:    ensures.*\n)+\{\n    0\n\}"),
+        ("a refusal as numbers", r"-> (?:Result<)?\(+u8, u64"),
+        ("a number for a kind", r"fn \w+(?:<[^>]*>)?\([^)]*\) -> (?:u8|\(u8, u8\))\n(?!(?:    ensures.*\n)+\{\n    0\n\})"),
+        ("a mark written as a number", r"(?:bytes|marks)\[\w+\] (?:=|==|>) \d;?|\{ 2 \} else \{ 0 \}"),
+        ("true or false for done or refused", r"fn (?:push|settle_within)\b"),
+        ("a flag beside a value", r"^    (?:pub |pub\(crate\) )?\w+: bool,"),
+        ("a place, or a number for none", r"// The (?:first )?place[^\n]*, or [^\n]*"),
+        ("an answer taken apart and made again", r"Err\((\w+)\) => Err\(\1\)|Err\((\w+)\) = [^{]*\{\s*return Err\(\2\)|None => None,|Ok\((\w+)\) => Ok\(Some\(\3\)\)|else \{\s*return None;\s*\}"),
+    ],
+    "2": [
+        ("a refusal written out", r"(?<!struct )(?<!-> )\bRefusal \{\n"),
+        ("a crate's own function for a refusal", r"fn refused\("),
+        ("a walk over the sites that a site is linked to", r"let mut (?:j|from) = [0j];\s*loop \{"),
+        ("has a site wait", r"fn (?:wait|offer|wake|wait_round|wake_round|spread)\b(?=[^{]*List<)"),
+        ("makes all entries 0", r"fn clear\((?!&mut self)"),
+        ("the lowest that", r"fn (?:lowest_\w+|find)\b"),
+        ("none is above a limit", r"fn (?:all_low|within)\b"),
+        ("a sum of links over records", r"sum \+= (?:links_of|drain_of)"),
+        ("one letter's reader", r"^fn read_\w+\(words"),
+        ("calls that differ in a check or a list", r"fn (?:fire|fire_near|settle_fit|settle_counted|told|sent|resume|drop_grains|close|shelve)\b(?=[^{]*\()"),
+        ("an array with a number of those held, as a table of links", r"\[Link; (?:4096|32)\],"),
+    ],
+    "3": [
+        ("a cursor moved by hand", r"\n\s+(?:loop|while [^\n]*) \{"),
+        ("an index over a list", r"for \w+ in \w+\.\.[^{]*\{"),
+    ],
+    "4": [
+        ("a number or a letter of a kind", r"fn (?:number|letter|kind)\(self\)|fn kind_of\("),
+        ("a name of a kind", r"fn name\("),
+        ("printing by hand", r"fn show\w*\("),
+        ("1 where a test holds", r"\{ 1 \} else \{ 0 \}|return 1;"),
+        ("a wider number by as", r"\bas u(?:64|32)\b"),
+        ("a struct copied field by field", r"site: old\.site"),
+        ("equality by hand", r"fn is_alike\("),
+    ],
+    "5": [
+        ("length of a lent list", r"requires (?:heights|numbers|sized|bytes|room|end|counted|marks|list|waiting|counts) \{"),
+        ("a start, counts and an end together", r"start: &\[u64\],\s*counts: &\[u64\],\s*end: &\[u64\]"),
+        ("the sides of a grid together", r"rows: usize, columns: usize, v"),
+        ("the sites of a pair together", r"a: usize, b: usize, p"),
+    ],
+    "6": [
+        ("a buffer with a number of those held", r"^    held: usize,|^    len: usize,"),
+        ("lists side by side", r"^    (?:pub )?(?:heights|counts|opened): Vec<u64>,"),
+    ],
+    "7": [
+        ("an arm for each step", r"=> read_\w+\(words\)"),
+        ("functions that differ in the call they make", r"^fn (?:resume|drop_grains|close|shelve)<"),
+    ],
+}
+
+
+def text(path):
+    s = open(path).read()
+    cut = s.find("#[cfg(test)]")
+    return s, s if cut < 0 else s[:cut]
+
+
+def main():
+    listing = "-l" in sys.argv
+    asked = [a for a in sys.argv[1:] if a != "-l"]
+    for point, rows in POINTS.items():
+        if asked and point not in asked:
+            continue
+        whole = 0
+        lines = []
+        for what, pattern in rows:
+            found = []
+            for path in sorted(glob.glob("crates/*/src/**/*.rt", recursive=True)):
+                every, code = text(path)
+                for m in re.finditer(pattern, every if "as numbers" in what else code, re.M):
+                    found.append(f"{path}:{every.count(chr(10), 0, m.start() + len(m.group()) - len(m.group().lstrip())) + 1}")
+            whole += len(found)
+            lines.append(f"    {len(found):3} {what}")
+            if listing:
+                lines += [f"          {f}" for f in found]
+        print(f"point {point}: {whole}")
+        print("\n".join(lines))
+
+
+main()
