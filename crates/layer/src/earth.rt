@@ -5,7 +5,7 @@ ghost use Rattle.board.specs.Shape.{Shape};
 ghost use Rattle.layer.specs.Earths.{earth_active, earth_of, earth_checks, EarthOn, Earthing};
 ghost use Rattle.layer.specs.Earthed.{earth_sound};
 
-use crate::site::{lifted, next_but};
+use crate::site::{lifted, lowered, next_but};
 use board::Board;
 use refusal::{Part, Refusal, Row};
 
@@ -33,25 +33,10 @@ impl<B: Board> Earth<B> {
     {
         let n = self.below.count();
         if w >= n {
-            return Err(Refusal {
-                row: Row::Site,
-                place: w as u64,
-                part: Part::Earth,
-            });
+            return Err(Part::Earth.refuse_at(Row::Site, w));
         }
-        if let Some(_) = self.site {
-            return Err(Refusal {
-                row: Row::LayerSet,
-                place: 0,
-                part: Part::Earth,
-            });
-        }
-        if n == 1 {
-            return Err(Refusal {
-                row: Row::LayerSet,
-                place: 0,
-                part: Part::Earth,
-            });
+        if self.site.is_some() || n == 1 {
+            return Err(Part::Earth.refuse(Row::LayerSet));
         }
         self.site = Some(w);
         Ok(())
@@ -78,11 +63,8 @@ impl<B: Board> Earth<B> {
         ensures is { earth_active (B.Board.shape self.now.below) self.now.site ≡ result }
         ensures on { EarthOn (B.Board.shape self.now.below) result }
     {
-        let Some(w) = self.site else {
-            return None;
-        };
         let n = self.below.count();
-        if w < n && 1 < n { Some(w) } else { None }
+        self.site.filter(|w| *w < n && 1 < n)
     }
 }
 
@@ -92,10 +74,8 @@ impl<B: Board> Board for Earth<B> {
     ghost sound = { λ e. earth_sound (B.Board.shape e.below) (B.Board.sound e.below) e.site };
 
     fn count(&self) -> usize {
-        match self.active() {
-            None => self.below.count(),
-            Some(_) => self.below.count() - 1,
-        }
+        let n = self.below.count();
+        if self.active().is_some() { n - 1 } else { n }
     }
 
     fn links(&self, u: usize, v: usize) -> u32 {
@@ -128,9 +108,7 @@ impl<B: Board> Board for Earth<B> {
         if v >= n || j >= n {
             return None;
         }
-        let Some(u) = next_but(&self.below, w, lifted(w, v), lifted(w, j)) else {
-            return None;
-        };
-        if u < w { Some(u) } else { Some(u - 1) }
+        let u = next_but(&self.below, w, lifted(w, v), lifted(w, j))?;
+        Some(lowered(w, u))
     }
 }

@@ -5,4 +5,3 @@ pub mod cut;
 pub mod earth;
 pub mod merge;
 mod site;
-mod table;

@@ -19,25 +19,14 @@ returns-then-v-n g c =
       | inr h ↦ off_zero (g.B.Board.shape c.args.self.now.below) c.args.self.now.site c.in-Some.w c.in-Some.ensures.is ok c.args.v k (inr (omega arith))
     ]
 
-pub returns-in_default-next_but : goal.returns-in_default-next_but
-returns-in_default-next_but g c =
+pub returns-in_err-u : goal.returns-in_err-u
+returns-in_err-u g c =
     let b = g.B.Board.shape c.args.self.now.below in
     let same = seen b c.args.self.now.site c.in-Some.w c.in-Some.ensures.is c.args.v _ c.lifted.ensures in
-    none_up c.in-Some.w (b.m _) _ same c.args.j _ c.lifted-2.ensures c.in_default-next_but.ensures
+    rw c.from_residual.ensures (none_up c.in-Some.w (b.m _) _ same c.args.j _ c.lifted-2.ensures c.in_err-u.ensures)
 
-pub returns-then-u-w : goal.returns-then-u-w
-returns-then-u-w g c =
+pub returns : goal.returns
+returns g c =
     let b = g.B.Board.shape c.args.self.now.below in
     let same = seen b c.args.self.now.site c.in-Some.w c.in-Some.ensures.is c.args.v _ c.lifted.ensures in
-    least_down c.in-Some.w (b.m _) _ same c.args.j _ _ _ c.lifted-2.ensures c.in-Some-next_but.ensures
-    (sym (up_below c.in-Some.w c.in-Some-next_but.u c.if-u-w.true))
-
-pub returns-else-u-w : goal.returns-else-u-w
-returns-else-u-w g c =
-    let b = g.B.Board.shape c.args.self.now.below in
-    let w = c.in-Some.w in
-    let u = c.in-Some-next_but.u in
-    let least = c.in-Some-next_but.ensures in
-    let same = seen b c.args.self.now.site c.in-Some.w c.in-Some.ensures.is c.args.v _ c.lifted.ensures in
-    let more : w < u = omega (arith, but_not w u (b.m c.lifted.result) least.linked, c.if-u-w.false) in
-    least_down c.in-Some.w (b.m _) _ same c.args.j _ _ _ c.lifted-2.ensures least (omega (arith, up_above w (u - 1) (omega arith)))
+    least_down c.in-Some.w (b.m _) _ same c.args.j _ _ _ c.lifted-2.ensures c.in_ok-u.ensures (sym c.lowered.ensures)

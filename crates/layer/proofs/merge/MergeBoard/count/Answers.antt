@@ -1,8 +1,16 @@
 -- What is left to show of `count`.
-use Rattle.std.proofs.Common.{arith}
+use Rattle.std.proofs.Common.{◌≡◌, ℕ, ◌-◌, true, Some, None, Option, sym, ◌∙◌, arith}
+use Rattle.std.specs.Option.{is_some}
+use Rattle.board.specs.Shape.{Shape}
+use Rattle.layer.specs.declared.merge.Pair.{Pair}
+use Rattle.layer.specs.Merges.{merge_active, merge_of}
 use Rattle.layer.specs.Merged.{at_sites}
 use Rattle.layer.proofs.merge.MergeBoard.count.Goals as goal
 
-pub returns-in-Some : goal.returns-in-Some
-returns-in-Some g c =
-    omega (arith, at_sites (g.B.Board.shape c.args.self.now.below) c.args.self.now.pair c.in-Some.field-0 c.in-Some.ensures.is)
+one_less : (b : Shape) (o r : Option Pair) → merge_active b o ≡ r → is_some r ≡ true → (merge_of b o).sites ≡ b.sites - 1
+one_less b o (Some w) e t = at_sites b o w e
+one_less b o None e t = absurd (cc)
+
+pub returns-then-is_some : goal.returns-then-is_some
+returns-then-is_some g c =
+    omega (arith, one_less (g.B.Board.shape c.args.self.now.below) c.args.self.now.pair c.active.result c.active.ensures.is (sym c.is_some.ensures ∙ c.if-is_some.true))
