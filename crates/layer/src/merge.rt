@@ -3,7 +3,7 @@ ghost use Rattle.std.specs.Prelude.{◌≡◌, ℕ, ◌<◌, ◌≤◌, None as 
 ghost use Rattle.refusal.specs.Table.{InOrder, rows as rows_of_lem};
 ghost use Rattle.board.specs.Shape.{Shape, LeastFrom};
 ghost use Rattle.layer.specs.Layers.{but};
-ghost use Rattle.layer.specs.Merges.{joined_m, joined_s, merge_active, merge_of, merge_checks, MergeOn, Merging, only, lesser};
+ghost use Rattle.layer.specs.Merges.{joined_m, joined_s, merge_active, merge_of, merge_checks, MergeOn, Merging, lesser};
 ghost use Rattle.layer.specs.Merged.{merge_sound};
 
 use crate::site::{lifted, lowered, next_but};
@@ -81,10 +81,7 @@ impl<B: Board> Merge<B> {
 fn least(x: Option<usize>, y: Option<usize>) -> Option<usize>
     ensures { result ≡ lesser x y }
 {
-    match (x, y) {
-        (Some(p), Some(q)) => Some(p.min(q)),
-        _ => x.or(y),
-    }
+    x.into_iter().chain(y).min()
 }
 
 impl Pair {
