@@ -73,11 +73,13 @@ impl<B: Board> Board for Earth<B> {
 
     ghost sound = { λ e. earth_sound (B.Board.shape e.below) (B.Board.sound e.below) e.site };
 
+    #[tactic(auto, using(crate::specs::Earthed::at_sites))]
     fn count(&self) -> usize {
         let n = self.below.count();
         if self.active().is_some() { n - 1 } else { n }
     }
 
+    #[tactic(auto, using(crate::specs::Earthed::at_m, crate::specs::Earthed::off_zero))]
     fn links(&self, u: usize, v: usize) -> u32 {
         let Some(w) = self.active() else {
             return self.below.links(u, v);
@@ -89,6 +91,7 @@ impl<B: Board> Board for Earth<B> {
         self.below.links(lifted(w, u), lifted(w, v))
     }
 
+    #[tactic(auto, using(crate::specs::Earthed::at_s, crate::specs::Earthed::at_sites, crate::specs::Earthed::earth_sound, board::specs::Walks::s_le, board::specs::Walks::m_le))]
     fn drain(&self, v: usize) -> u32 {
         let Some(w) = self.active() else {
             return self.below.drain(v);
@@ -100,6 +103,7 @@ impl<B: Board> Board for Earth<B> {
         self.below.drain(at) + self.below.links(at, w)
     }
 
+    #[tactic(auto, using(crate::specs::Earthed::off_zero))]
     fn next(&self, v: usize, j: usize) -> Option<usize> {
         let Some(w) = self.active() else {
             return self.below.next(v, j);

@@ -101,8 +101,8 @@ impl Pair {
     }
 
     // The links of `p` and `q` once the pair is merged.
+    #[tactic(auto, using(board::specs::Walks::m_le))]
     fn links<B: Board>(self, below: &B, p: usize, q: usize) -> u32
-        requires { joined_m self.a self.b (B.Board.shape below.now) p q ≤ 500000 }
         ensures { result ≡ joined_m self.a self.b (B.Board.shape below.now) p q }
     {
         if p == q {
@@ -118,8 +118,8 @@ impl Pair {
     }
 
     // The drain links of `p` once the pair is merged.
+    #[tactic(auto, using(board::specs::Walks::s_le))]
     fn drain<B: Board>(self, below: &B, p: usize) -> u32
-        requires { joined_s self.a self.b (B.Board.shape below.now) p ≤ 500000 }
         ensures { result ≡ joined_s self.a self.b (B.Board.shape below.now) p }
     {
         if p == self.b {
@@ -134,11 +134,13 @@ impl<B: Board> Board for Merge<B> {
 
     ghost sound = { λ e. merge_sound (B.Board.shape e.below) (B.Board.sound e.below) e.pair };
 
+    #[tactic(auto, using(crate::specs::Merged::at_sites))]
     fn count(&self) -> usize {
         let n = self.below.count();
         if self.active().is_some() { n - 1 } else { n }
     }
 
+    #[tactic(auto, using(crate::specs::Merged::at_m, crate::specs::Merged::off_zero))]
     fn links(&self, u: usize, v: usize) -> u32 {
         let Some(pair) = self.active() else {
             return self.below.links(u, v);
@@ -150,6 +152,7 @@ impl<B: Board> Board for Merge<B> {
         pair.links(&self.below, lifted(pair.a, u), lifted(pair.a, v))
     }
 
+    #[tactic(auto, using(crate::specs::Merged::at_s, crate::specs::Merged::at_sites, crate::specs::Merged::merge_sound))]
     fn drain(&self, v: usize) -> u32 {
         let Some(pair) = self.active() else {
             return self.below.drain(v);
@@ -160,6 +163,7 @@ impl<B: Board> Board for Merge<B> {
         pair.drain(&self.below, lifted(pair.a, v))
     }
 
+    #[tactic(auto, using(crate::specs::Merged::off_zero))]
     fn next(&self, v: usize, j: usize) -> Option<usize> {
         let Some(pair) = self.active() else {
             return self.below.next(v, j);

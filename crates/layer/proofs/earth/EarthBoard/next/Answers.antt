@@ -11,14 +11,6 @@ use Rattle.layer.proofs.earth.EarthBoard.next.Goals as goal
 seen : (b : Shape) (o : Option ℕ) (w : ℕ) → earth_active b o ≡ Some w → (v v1 : ℕ) → v1 ≡ up w v → (k : ℕ) → (earth_of b o).m v k ≡ b.m v1 (up w k)
 seen b o w e v v1 ev k = at_m b o w e v k ∙ ap (λ x. b.m x (up w k)) (sym ev)
 
-pub returns-then-v-n : goal.returns-then-v-n
-returns-then-v-n g c =
-    let ok = g.met.B.Board.sound c.args.self.now.below in
-    λ k from. elim c.then-v-n.either [
-      | inl h ↦ off_zero (g.B.Board.shape c.args.self.now.below) c.args.self.now.site c.in-Some.w c.in-Some.ensures.is ok c.args.v k (inl (omega arith))
-      | inr h ↦ off_zero (g.B.Board.shape c.args.self.now.below) c.args.self.now.site c.in-Some.w c.in-Some.ensures.is ok c.args.v k (inr (omega arith))
-    ]
-
 pub returns-in_err-u : goal.returns-in_err-u
 returns-in_err-u g c =
     let b = g.B.Board.shape c.args.self.now.below in

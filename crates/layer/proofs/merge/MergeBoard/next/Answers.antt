@@ -5,14 +5,6 @@ use Rattle.layer.specs.Uplifts.{up_below, up_above, but_not, none_up, least_down
 use Rattle.layer.specs.Merged.{off_zero, seen}
 use Rattle.layer.proofs.merge.MergeBoard.next.Goals as goal
 
-pub returns-then-v-n : goal.returns-then-v-n
-returns-then-v-n g c =
-    let ok = g.met.B.Board.sound c.args.self.now.below in
-    λ k from. elim c.then-v-n.either [
-      | inl h ↦ off_zero (g.B.Board.shape c.args.self.now.below) c.args.self.now.pair c.in-Some.pair c.in-Some.ensures.is ok c.args.v k (inl (omega arith))
-      | inr h ↦ off_zero (g.B.Board.shape c.args.self.now.below) c.args.self.now.pair c.in-Some.pair c.in-Some.ensures.is ok c.args.v k (inr (omega arith))
-    ]
-
 pub returns-in_err-u : goal.returns-in_err-u
 returns-in_err-u g c =
     let x = g.B.Board.shape c.args.self.now.below in
