@@ -49,16 +49,20 @@ pub fn with_cut<B: Board + Drop>(board: B, a: usize, b: End, k: u64) -> Result<C
     Ok(cut)
 }
 
+// What a pile does to the board below it: the site that is earthed, the pair that is merged then, the links that are cut then.
+#[derive(Clone, Copy)]
+pub struct Plan {
+    pub site: usize,
+    pub pair: Pair,
+    pub link: Link,
+}
+
 // Earth lowest, merge on it, cut on top.
-pub fn pile_up<B: Board + Drop>(
-    board: B,
-    w: usize,
-    pair: Pair,
-    link: Link,
-) -> Result<Cut<Merge<Earth<B>>>, Refusal>
-    ensures { Piled (B.Board.shape board) w pair link (λ e. cut_of (merge_of (earth_of (B.Board.shape e.below.below.below) e.below.below.site) e.below.pair) e.entries.items) result }
+pub fn pile_up<B: Board + Drop>(board: B, plan: Plan) -> Result<Cut<Merge<Earth<B>>>, Refusal>
+    ensures { Piled (B.Board.shape board) plan.site plan.pair plan.link (λ e. cut_of (merge_of (earth_of (B.Board.shape e.below.below.below) e.below.below.site) e.below.pair) e.entries.items) result }
 {
-    let earth = with_earth(board, w)?;
+    let Plan { site, pair, link } = plan;
+    let earth = with_earth(board, site)?;
     let merge = with_merge(earth, pair.a, pair.b)?;
     with_cut(merge, link.site, link.other, u64::from(link.count))
 }
@@ -67,13 +71,11 @@ pub fn pile_up<B: Board + Drop>(
 pub fn on_grid(
     rows: usize,
     columns: usize,
-    w: usize,
-    pair: Pair,
-    link: Link,
+    plan: Plan,
 ) -> Result<Cut<Merge<Earth<Grid>>>, Refusal>
-    ensures { OnGrid rows columns w pair link (λ e. cut_of (merge_of (earth_of (grid_of e.below.below.below.rows e.below.below.below.columns) e.below.below.site) e.below.pair) e.entries.items) result }
+    ensures { OnGrid rows columns plan.site plan.pair plan.link (λ e. cut_of (merge_of (earth_of (grid_of e.below.below.below.rows e.below.below.below.columns) e.below.below.site) e.below.pair) e.entries.items) result }
 {
-    pile_up(Grid::new(rows, columns)?, w, pair, link)
+    pile_up(Grid::new(rows, columns)?, plan)
 }
 
 // A list of three sites in a row, two links to each neighbour and one from each end to the drain.
@@ -89,8 +91,8 @@ pub fn row_of_three() -> Result<LinkList, Refusal>
 }
 
 // The pile on that list.
-pub fn on_list(w: usize, pair: Pair, link: Link) -> Result<Cut<Merge<Earth<LinkList>>>, Refusal>
-    ensures { Piled row_of_three w pair link (λ e. cut_of (merge_of (earth_of (shape_of e.below.below.below) e.below.below.site) e.below.pair) e.entries.items) result }
+pub fn on_list(plan: Plan) -> Result<Cut<Merge<Earth<LinkList>>>, Refusal>
+    ensures { Piled row_of_three plan.site plan.pair plan.link (λ e. cut_of (merge_of (earth_of (shape_of e.below.below.below) e.below.below.site) e.below.pair) e.entries.items) result }
 {
-    pile_up(row_of_three()?, w, pair, link)
+    pile_up(row_of_three()?, plan)
 }
