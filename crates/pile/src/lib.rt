@@ -68,11 +68,7 @@ pub fn pile_up<B: Board + Drop>(board: B, plan: Plan) -> Result<Cut<Merge<Earth<
 }
 
 // The pile on a grid.
-pub fn on_grid(
-    rows: usize,
-    columns: usize,
-    plan: Plan,
-) -> Result<Cut<Merge<Earth<Grid>>>, Refusal>
+pub fn on_grid(rows: usize, columns: usize, plan: Plan) -> Result<Cut<Merge<Earth<Grid>>>, Refusal>
     ensures { OnGrid rows columns plan.site plan.pair plan.link (λ e. cut_of (merge_of (earth_of (grid_of e.below.below.below.rows e.below.below.below.columns) e.below.below.site) e.below.pair) e.entries.items) result }
 {
     pile_up(Grid::new(rows, columns)?, plan)

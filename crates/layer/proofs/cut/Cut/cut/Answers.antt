@@ -1,5 +1,5 @@
 -- What is left to show of `cut`.
-use Rattle.std.proofs.Common.{◌≡◌, ℕ, ◌<◌, ◌≤◌, true, false, not, List, [], ◌∷◌, ◌++◌, length, get_or, Some, None, Option, Ok, refl, sym, ap, ◌∙◌, subst, inl, inr, arith, length-set, All, position, nat_lt, slice_index_or, slice_set}
+use Rattle.std.proofs.Common.{◌≡◌, ℕ, ◌≤◌, true, false, not, List, length, Some, None, Option, Ok, refl, sym, ap, ◌∙◌, subst, inl, inr, arith, length-set, All, position, nat_lt, slice_index_or, slice_set}
 use Rattle.std.specs.Option.{is_some}
 use Rattle.std.specs.List.{refill, position_or_len}
 use Rattle.std.proofs.lemmas.Bool.{cases_lt, cond-true, lt-ltb, eqb-true, eqb-false, false≢true}
@@ -8,7 +8,6 @@ use Rattle.std.proofs.lemmas.List.Quantifiers.{position-Some}
 use Rattle.std.proofs.lemmas.List.Elements.{All-set, All-push}
 use Rattle.std.proofs.lemmas.List.Sums.{fails_before_first}
 use Rattle.arrayvec.proofs.ArrayVecLemmas.{items-with_items}
-use Rattle.board.specs.Shape.{Shape}
 use Rattle.board.specs.declared.link.Link.{Link}
 use Rattle.board.specs.declared.link.End.{End}
 use Rattle.board.specs.Links.{no_link, alike, Fit}

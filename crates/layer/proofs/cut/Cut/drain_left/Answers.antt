@@ -1,8 +1,8 @@
 -- What is left to show of `drain_left`.
-use Rattle.std.proofs.Common.{◌≤◌, rules, arith, sum_by}
+use Rattle.std.proofs.Common.{◌≤◌, rules, sum_by}
 use Rattle.std.proofs.iter.runs.Made.{chains}
 use Rattle.board.specs.declared.link.Link.{Link}
-use Rattle.board.specs.Links.{between, to_drain}
+use Rattle.board.specs.Links.{to_drain}
 use Rattle.layer.specs.Cutting.{taken_s_low}
 use Rattle.layer.proofs.cut.Cut.drain_left.Goals as goal
 

@@ -1,8 +1,8 @@
 -- What is left to show of `links_left`.
-use Rattle.std.proofs.Common.{◌≤◌, rules, arith, sum_by}
+use Rattle.std.proofs.Common.{◌≤◌, rules, sum_by}
 use Rattle.std.proofs.iter.runs.Made.{chains}
 use Rattle.board.specs.declared.link.Link.{Link}
-use Rattle.board.specs.Links.{between, to_drain}
+use Rattle.board.specs.Links.{between}
 use Rattle.layer.specs.Cutting.{taken_m_low}
 use Rattle.layer.proofs.cut.Cut.links_left.Goals as goal
 

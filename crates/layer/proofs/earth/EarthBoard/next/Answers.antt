@@ -1,10 +1,10 @@
 -- What is left to show of `next`.
-use Rattle.std.proofs.Common.{◌≡◌, ℕ, ◌-◌, ◌<◌, Some, Option, sym, ap, ◌∙◌, inl, inr, arith}
+use Rattle.std.proofs.Common.{◌≡◌, ℕ, Some, Option, sym, ap, ◌∙◌}
 use Rattle.board.specs.Shape.{Shape}
 use Rattle.layer.specs.Layers.{up}
 use Rattle.layer.specs.Earths.{earth_active, earth_of}
-use Rattle.layer.specs.Earthed.{off_zero, at_m}
-use Rattle.layer.specs.Uplifts.{up_below, up_above, but_not, none_up, least_down}
+use Rattle.layer.specs.Earthed.{at_m}
+use Rattle.layer.specs.Uplifts.{none_up, least_down}
 use Rattle.layer.proofs.earth.EarthBoard.next.Goals as goal
 
 -- the links of v, seen from below

@@ -1,8 +1,8 @@
 -- What is left to show of `next`.
-use Rattle.std.proofs.Common.{◌-◌, ◌<◌, sym, inl, inr, arith}
+use Rattle.std.proofs.Common.{sym}
 use Rattle.layer.specs.Merges.{joined_m}
-use Rattle.layer.specs.Uplifts.{up_below, up_above, but_not, none_up, least_down}
-use Rattle.layer.specs.Merged.{off_zero, seen}
+use Rattle.layer.specs.Uplifts.{none_up, least_down}
+use Rattle.layer.specs.Merged.{seen}
 use Rattle.layer.proofs.merge.MergeBoard.next.Goals as goal
 
 pub returns-in_err-u : goal.returns-in_err-u
