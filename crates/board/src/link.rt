@@ -3,14 +3,15 @@ ghost use Rattle.std.specs.Prelude.{◌≡◌, ℕ, ◌≤◌};
 ghost use Rattle.board.specs.Links.{between, to_drain, far, alike, weight, Fitting};
 
 // Where links of a site lead: to another site, or to the drain.
-#[derive(Clone, Copy, PartialEq, Eq, Debug)]
+#[derive(Clone, Copy, PartialEq, Eq, Debug, Default)]
 pub enum End {
     Site(usize),
+    #[default]
     Drain,
 }
 
 // A number of links between a site and an end.
-#[derive(Clone, Copy)]
+#[derive(Clone, Copy, Default)]
 pub struct Link {
     pub site: usize,
     pub other: End,

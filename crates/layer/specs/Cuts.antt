@@ -1,5 +1,6 @@
 -- Cut: what the layer makes of the board below.
-use Rattle.std.specs.Prelude.{◌≡◌, ℕ, ◌+◌, ◌-◌, ◌<◌, Bool, true, false, ◌⊎◌, List, [], ◌∷◌, get_or, Ok, Err, Result, ◌≢◌, slice_index_or, slice_set}
+use Rattle.std.specs.Prelude.{◌≡◌, ℕ, ◌+◌, ◌-◌, ◌<◌, Bool, true, false, ◌⊎◌, List, [], ◌∷◌, ◌++◌, length, get_or, All, sum_by, Ok, Err, Result, ◌≢◌, slice_index_or, slice_set}
+use Rattle.std.specs.List.{list_all}
 use Rattle.refusal.specs.declared.Row.TheVariants as row
 use Rattle.refusal.specs.declared.Part.TheVariants as part
 use Rattle.refusal.specs.declared.Refusal.{Refusal}
@@ -8,23 +9,35 @@ use Rattle.board.specs.Shape.{Shape}
 use Rattle.board.specs.declared.link.Link.{Link}
 use Rattle.board.specs.declared.link.End.{End}
 use Rattle.board.specs.declared.link.End.TheVariants.{Site, Drain}
-use Rattle.board.specs.Links.{no_link, between, to_drain, m_of, s_of, alike, all_fit, Misfit}
+use Rattle.board.specs.Links.{no_link, between, to_drain, alike, fits, Misfit}
 
 -- one cut: its links are taken away, and what remains is never below 0
 unfoldable pub cut_by : Shape → Link → Shape
 cut_by x l = record { sites = x.sites; m = λ u v. x.m u v - between l u v; s = λ v. x.s v - to_drain l v }
 
--- the first n entries of xs taken away
-abbrev pub lessened : Shape → ℕ → List Link → Shape
-lessened x n xs = record { sites = x.sites; m = λ u v. x.m u v - m_of xs n u v; s = λ v. x.s v - s_of xs n v }
+-- the links of the entries xs between u and v: those of one pair add up
+abbrev pub taken_m : List Link → ℕ → ℕ → ℕ
+taken_m xs u v = sum_by (λ l. between l u v) xs
 
-abbrev pub cut_at : Bool → Shape → ℕ → List Link → Shape
-cut_at true x n xs = lessened x n xs
-cut_at false x n xs = x
+-- the links of the entries xs between v and the drain
+abbrev pub taken_s : List Link → ℕ → ℕ
+taken_s xs v = sum_by (λ l. to_drain l v) xs
+
+-- the entries xs taken away
+abbrev pub lessened : Shape → List Link → Shape
+lessened x xs = record { sites = x.sites; m = λ u v. x.m u v - taken_m xs u v; s = λ v. x.s v - taken_s xs v }
+
+-- all entries are on a board of n sites
+abbrev pub all_on : ℕ → List Link → Bool
+all_on n xs = list_all (λ l. fits n l.site l.other) xs
+
+abbrev pub cut_at : Bool → Shape → List Link → Shape
+cut_at true x xs = lessened x xs
+cut_at false x xs = x
 
 -- the board that the layer means: the one below where some entry is not on it
-abbrev pub cut_of : Shape → ℕ → List Link → Shape
-cut_of x n xs = cut_at (all_fit x.sites xs n) x n xs
+abbrev pub cut_of : Shape → List Link → Shape
+cut_of x xs = cut_at (all_on x.sites xs) x xs
 
 -- the links of a pair of ends
 abbrev pub standing : Shape → ℕ → End → ℕ
@@ -32,31 +45,31 @@ standing x a (Site y) = x.m a y
 standing x a Drain = x.s a
 
 -- no entry is of the pair
-abbrev pub New : List Link → ℕ → ℕ → End → Type 0
-New xs n a b = (i : ℕ) → i < n → alike (get_or xs i no_link).site (get_or xs i no_link).other a b ≢ true
+abbrev pub New : List Link → ℕ → End → Type 0
+New xs a b = All (λ l. alike l.site l.other a b ≢ true) xs
 
 -- a cut takes a link at least; its sites are on the board below, and apart; 32 entries fill the layer; so many links still stand after the cuts so far
-abbrev pub cut_checks : Shape → ℕ → List Link → ℕ → End → ℕ → List Check
-cut_checks x n xs a b k =
+abbrev pub cut_checks : Shape → List Link → ℕ → End → ℕ → List Check
+cut_checks x xs a b k =
     record { row = row.Limit; when = λ p. (p ≡ 0) × (k < 1) }
     ∷ record { row = row.Site; when = λ p. Misfit x.sites a b p }
-    ∷ record { row = row.CutFull; when = λ p. (p ≡ 0) × (n ≡ 32) × New xs n a b }
-    ∷ record { row = row.FewLinks; when = λ p. (p ≡ 0) × (standing (lessened x n xs) a b < k) }
+    ∷ record { row = row.CutFull; when = λ p. (p ≡ 0) × (length xs ≡ 32) × New xs a b }
+    ∷ record { row = row.FewLinks; when = λ p. (p ≡ 0) × (standing (lessened x xs) a b < k) }
     ∷ []
 
 -- k more links in an entry
 abbrev pub raised : Link → ℕ → Link
 raised l k = record { site = l.site; other = l.other; count = l.count + k }
 
--- n entries xs become n1 entries ys: the entry of the pair is raised by k, or there is a new one
-abbrev pub Entered : ℕ → List Link → ℕ → List Link → ℕ → End → ℕ → Type 0
-Entered n xs n1 ys a b k =
-    (New xs n a b × (n1 ≡ n + 1) × (ys ≡ slice_set xs n (record { site = a; other = b; count = k })))
-    ⊎ ((i : ℕ) × (i < n) × (alike (get_or xs i no_link).site (get_or xs i no_link).other a b ≡ true) × (n1 ≡ n) × (ys ≡ slice_set xs i (raised (slice_index_or xs i no_link) k)))
+-- the entries xs become ys: the entry of the pair is raised by k, or there is a new one
+abbrev pub Entered : List Link → List Link → ℕ → End → ℕ → Type 0
+Entered xs ys a b k =
+    (New xs a b × (ys ≡ xs ++ record { site = a; other = b; count = k } ∷ []))
+    ⊎ ((i : ℕ) × (i < length xs) × (alike (get_or xs i no_link).site (get_or xs i no_link).other a b ≡ true) × (ys ≡ slice_set xs i (raised (slice_index_or xs i no_link) k)))
 
 -- a cut on x is made: its links go too, unless the layer is idle for an entry that is not on the board below; or nothing changes
-abbrev pub Cutting : Shape → ℕ → List Link → ℕ → List Link → ℕ → End → ℕ → Result Unit Refusal → Type 0
-Cutting x n xs n1 ys a b k (Ok _) = Passed (cut_checks x n xs a b k) × Entered n xs n1 ys a b k
-    × (all_fit x.sites xs n ≡ true → cut_of x n1 ys ≡ cut_by (cut_of x n xs) (record { site = a; other = b; count = k }))
-    × (all_fit x.sites xs n ≡ false → cut_of x n1 ys ≡ x)
-Cutting x n xs n1 ys a b k (Err e) = Refused (cut_checks x n xs a b k) part.Cut e × (n1 ≡ n) × (ys ≡ xs)
+abbrev pub Cutting : Shape → List Link → List Link → ℕ → End → ℕ → Result Unit Refusal → Type 0
+Cutting x xs ys a b k (Ok _) = Passed (cut_checks x xs a b k) × Entered xs ys a b k
+    × (all_on x.sites xs ≡ true → cut_of x ys ≡ cut_by (cut_of x xs) (record { site = a; other = b; count = k }))
+    × (all_on x.sites xs ≡ false → cut_of x ys ≡ x)
+Cutting x xs ys a b k (Err e) = Refused (cut_checks x xs a b k) part.Cut e × (ys ≡ xs)

@@ -35,9 +35,6 @@ module _ {x : Shape} (ok : Sound x) (a b : ℕ) (on-a : a < x.sites) (on-b : b <
   pick : (y : ℕ) → sum_below (x.sites - 1) (λ k. cond (b == up a k) y 0) ≡ y
   pick y = omega (arith, sum_drop x.sites a (λ k. cond (b == k) y 0) on-a, sum_at x.sites b y on-b, cond-false (b == a) y 0 (ne_eqb b a (λ e. apart (sym e))))
 
-  inner : ℕ → ℕ → ℕ
-  inner p q = x.m p q + (cond (b == p) (x.m a q) 0 + cond (b == q) (x.m p a) 0)
-
   joined_sym : (p q : ℕ) → joined_m a b x p q ≡ joined_m a b x q p
   joined_sym p q =
       let e : x.m p q + (cond (b == p) (x.m a q) 0 + cond (b == q) (x.m p a) 0) ≡ x.m q p + (cond (b == q) (x.m a p) 0 + cond (b == p) (x.m q a) 0)
@@ -136,12 +133,6 @@ module _ (x : Shape) (o : Option Pair) (p : Pair) (e : merge_active x o ≡ Some
   pub at_s : (v : ℕ) → (merge_of x o).s v ≡ joined_s p.a p.b x (up p.a v)
   unfolding merged
   at_s v = ap (λ (y : Shape). y.s v) is_merged
-
-  pub met_m : (u v u1 v1 : ℕ) → u1 ≡ up p.a u → v1 ≡ up p.a v → joined_m p.a p.b x u1 v1 ≡ (merge_of x o).m u v
-  met_m u v u1 v1 eu ev = ap (λ y. joined_m p.a p.b x y v1) eu ∙ ap (joined_m p.a p.b x (up p.a u)) ev ∙ sym (at_m u v)
-
-  pub met_s : (v v1 : ℕ) → v1 ≡ up p.a v → joined_s p.a p.b x v1 ≡ (merge_of x o).s v
-  met_s v v1 ev = ap (joined_s p.a p.b x) ev ∙ sym (at_s v)
 
   pub off_zero : Sound x → (u v : ℕ) → (x.sites - 1 ≤ u) ⊎ (x.sites - 1 ≤ v) → (merge_of x o).m u v ≡ 0
   off_zero ok u v (inl h) = off_left (merge_sound x ok o) u v (omega (arith, at_sites))

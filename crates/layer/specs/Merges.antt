@@ -56,10 +56,6 @@ abbrev pub Merging : Shape → Option Pair → Option Pair → ℕ → ℕ → R
 Merging x o o1 a b (Ok _) = Passed (merge_checks x o a b) × (o1 ≡ Some (record { a = a; b = b })) × (merge_of x o1 ≡ merged a b x)
 Merging x o o1 a b (Err e) = Refused (merge_checks x o a b) part.Merge e × (o1 ≡ o)
 
--- c at b, and 0 elsewhere
-abbrev pub only : ℕ → ℕ → ℕ → ℕ
-only b c k = cond (b == k) c 0
-
 -- the lesser of two places
 abbrev pub lesser : Option ℕ → Option ℕ → Option ℕ
 lesser None None = None

@@ -1,7 +1,7 @@
 // Cut: a layer that takes links away.
-ghost use Rattle.std.specs.Prelude.{◌≤◌};
-ghost use Rattle.board.specs.Links.{Low};
+ghost use Rattle.std.specs.Prelude.{◌≤◌, All};
 
+use arrayvec::ArrayVec;
 use board::link::Link;
 
 mod ask;
@@ -11,8 +11,6 @@ mod make;
 #[derive(Drop)]
 pub struct Cut<B> {
     below: B,
-    held: usize,
-    entries: [Link; 32],
-    ghost room: { held ≤ 32 },
-    ghost low: { Low entries held },
+    entries: ArrayVec<Link, 32>,
+    ghost low: { All (λ l. l.count ≤ 500000) entries.items },
 }

@@ -5,7 +5,7 @@ ghost use Rattle.board.specs.Shape.{Shape};
 ghost use Rattle.layer.specs.Earths.{earth_active, earth_of, earth_checks, EarthOn, Earthing};
 ghost use Rattle.layer.specs.Earthed.{earth_sound};
 
-use crate::site::{lifted, next_but};
+use crate::site::{lifted, lowered, next_but};
 use board::Board;
 use refusal::{Part, Refusal, Row};
 
@@ -33,25 +33,10 @@ impl<B: Board> Earth<B> {
     {
         let n = self.below.count();
         if w >= n {
-            return Err(Refusal {
-                row: Row::Site,
-                place: w as u64,
-                part: Part::Earth,
-            });
+            return Err(Part::Earth.refuse_at(Row::Site, w));
         }
-        if let Some(_) = self.site {
-            return Err(Refusal {
-                row: Row::LayerSet,
-                place: 0,
-                part: Part::Earth,
-            });
-        }
-        if n == 1 {
-            return Err(Refusal {
-                row: Row::LayerSet,
-                place: 0,
-                part: Part::Earth,
-            });
+        if self.site.is_some() || n == 1 {
+            return Err(Part::Earth.refuse(Row::LayerSet));
         }
         self.site = Some(w);
         Ok(())
@@ -78,11 +63,8 @@ impl<B: Board> Earth<B> {
         ensures is { earth_active (B.Board.shape self.now.below) self.now.site ≡ result }
         ensures on { EarthOn (B.Board.shape self.now.below) result }
     {
-        let Some(w) = self.site else {
-            return None;
-        };
         let n = self.below.count();
-        if w < n && 1 < n { Some(w) } else { None }
+        self.site.filter(|w| *w < n && 1 < n)
     }
 }
 
@@ -91,13 +73,13 @@ impl<B: Board> Board for Earth<B> {
 
     ghost sound = { λ e. earth_sound (B.Board.shape e.below) (B.Board.sound e.below) e.site };
 
+    #[tactic(auto, using(crate::specs::Earthed::at_sites))]
     fn count(&self) -> usize {
-        match self.active() {
-            None => self.below.count(),
-            Some(_) => self.below.count() - 1,
-        }
+        let n = self.below.count();
+        if self.active().is_some() { n - 1 } else { n }
     }
 
+    #[tactic(auto, using(crate::specs::Earthed::at_m, crate::specs::Earthed::off_zero))]
     fn links(&self, u: usize, v: usize) -> u32 {
         let Some(w) = self.active() else {
             return self.below.links(u, v);
@@ -109,6 +91,7 @@ impl<B: Board> Board for Earth<B> {
         self.below.links(lifted(w, u), lifted(w, v))
     }
 
+    #[tactic(auto, using(crate::specs::Earthed::at_s, crate::specs::Earthed::at_sites, crate::specs::Earthed::earth_sound, board::specs::Walks::s_le, board::specs::Walks::m_le))]
     fn drain(&self, v: usize) -> u32 {
         let Some(w) = self.active() else {
             return self.below.drain(v);
@@ -120,6 +103,7 @@ impl<B: Board> Board for Earth<B> {
         self.below.drain(at) + self.below.links(at, w)
     }
 
+    #[tactic(auto, using(crate::specs::Earthed::off_zero))]
     fn next(&self, v: usize, j: usize) -> Option<usize> {
         let Some(w) = self.active() else {
             return self.below.next(v, j);
@@ -128,9 +112,7 @@ impl<B: Board> Board for Earth<B> {
         if v >= n || j >= n {
             return None;
         }
-        let Some(u) = next_but(&self.below, w, lifted(w, v), lifted(w, j)) else {
-            return None;
-        };
-        if u < w { Some(u) } else { Some(u - 1) }
+        let u = next_but(&self.below, w, lifted(w, v), lifted(w, j))?;
+        Some(lowered(w, u))
     }
 }

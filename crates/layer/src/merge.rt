@@ -3,10 +3,10 @@ ghost use Rattle.std.specs.Prelude.{◌≡◌, ℕ, ◌<◌, ◌≤◌, None as 
 ghost use Rattle.refusal.specs.Table.{InOrder, rows as rows_of_lem};
 ghost use Rattle.board.specs.Shape.{Shape, LeastFrom};
 ghost use Rattle.layer.specs.Layers.{but};
-ghost use Rattle.layer.specs.Merges.{joined_m, joined_s, merge_active, merge_of, merge_checks, MergeOn, Merging, only, lesser};
+ghost use Rattle.layer.specs.Merges.{joined_m, joined_s, merge_active, merge_of, merge_checks, MergeOn, Merging, lesser};
 ghost use Rattle.layer.specs.Merged.{merge_sound};
 
-use crate::site::{lifted, next_but};
+use crate::site::{lifted, lowered, next_but};
 use board::Board;
 use board::link::{End, misfit};
 use refusal::{Part, Refusal, Row};
@@ -41,18 +41,10 @@ impl<B: Board> Merge<B> {
         ensures set { Merging (B.Board.shape self.old.below) self.old.pair self.new.pair a b result }
     {
         if let Some(site) = misfit(self.below.count(), a, End::Site(b)) {
-            return Err(Refusal {
-                row: Row::Site,
-                place: site as u64,
-                part: Part::Merge,
-            });
+            return Err(Part::Merge.refuse_at(Row::Site, site));
         }
-        if let Some(_) = self.pair {
-            return Err(Refusal {
-                row: Row::LayerSet,
-                place: 0,
-                part: Part::Merge,
-            });
+        if self.pair.is_some() {
+            return Err(Part::Merge.refuse(Row::LayerSet));
         }
         self.pair = Some(Pair { a, b });
         Ok(())
@@ -79,15 +71,9 @@ impl<B: Board> Merge<B> {
         ensures is { merge_active (B.Board.shape self.now.below) self.now.pair ≡ result }
         ensures on { MergeOn (B.Board.shape self.now.below) result }
     {
-        let Some(pair) = self.pair else {
-            return None;
-        };
         let n = self.below.count();
-        if pair.a < n && pair.b < n && pair.a != pair.b {
-            Some(pair)
-        } else {
-            None
-        }
+        self.pair
+            .filter(|pair| pair.a < n && pair.b < n && pair.a != pair.b)
     }
 }
 
@@ -95,61 +81,52 @@ impl<B: Board> Merge<B> {
 fn least(x: Option<usize>, y: Option<usize>) -> Option<usize>
     ensures { result ≡ lesser x y }
 {
-    let Some(p) = x else {
-        return y;
-    };
-    let Some(q) = y else {
-        return x;
-    };
-    if p < q { Some(p) } else { Some(q) }
+    x.into_iter().chain(y).min()
 }
 
-// The site `b`, if it is from `j` on and has `count` links.
-fn sole(b: usize, j: usize, count: u32) -> Option<usize>
-    ensures { LeastFrom (only b count) j result }
-{
-    if b < j || count == 0 { None } else { Some(b) }
-}
+impl Pair {
+    // The least site from `j` on, other than `a`, that `p` is linked to once the pair is merged.
+    fn next<B: Board>(self, below: &B, p: usize, j: usize) -> Option<usize>
+        requires low { (self.a < 4096) × (self.b < 4096) }
+        requires apart { self.a ≢ self.b }
+        requires other { p ≢ self.a }
+        ensures { LeastFrom (but self.a (joined_m self.a self.b (B.Board.shape below.now) p)) j result }
+    {
+        let Pair { a, b } = self;
+        if p == b {
+            return least(next_but(below, a, b, j), next_but(below, b, a, j));
+        }
+        let sole = (b >= j && below.links(p, a) > 0).then_some(b);
+        least(next_but(below, a, p, j), sole)
+    }
 
-// The least site from `j` on, other than `a`, that `p` is linked to once `a` is merged into `b`.
-fn joined_next<B: Board>(below: &B, a: usize, b: usize, p: usize, j: usize) -> Option<usize>
-    requires low { (a < 4096) × (b < 4096) }
-    requires apart { a ≢ b }
-    requires other { p ≢ a }
-    ensures { LeastFrom (but a (joined_m a b (B.Board.shape below.now) p)) j result }
-{
-    if p == b {
-        return least(next_but(below, a, b, j), next_but(below, b, a, j));
+    // The links of `p` and `q` once the pair is merged.
+    #[tactic(auto, using(board::specs::Walks::m_le))]
+    fn links<B: Board>(self, below: &B, p: usize, q: usize) -> u32
+        ensures { result ≡ joined_m self.a self.b (B.Board.shape below.now) p q }
+    {
+        if p == q {
+            return 0;
+        }
+        if p == self.b {
+            return below.links(p, q) + below.links(self.a, q);
+        }
+        if q == self.b {
+            return below.links(p, q) + below.links(p, self.a);
+        }
+        below.links(p, q)
     }
-    least(next_but(below, a, p, j), sole(b, j, below.links(p, a)))
-}
 
-// The links of `p` and `q` once `a` is merged into `b`.
-fn joined_links<B: Board>(below: &B, a: usize, b: usize, p: usize, q: usize) -> u32
-    requires { joined_m a b (B.Board.shape below.now) p q ≤ 500000 }
-    ensures { result ≡ joined_m a b (B.Board.shape below.now) p q }
-{
-    if p == q {
-        return 0;
+    // The drain links of `p` once the pair is merged.
+    #[tactic(auto, using(board::specs::Walks::s_le))]
+    fn drain<B: Board>(self, below: &B, p: usize) -> u32
+        ensures { result ≡ joined_s self.a self.b (B.Board.shape below.now) p }
+    {
+        if p == self.b {
+            return below.drain(p) + below.drain(self.a);
+        }
+        below.drain(p)
     }
-    if p == b {
-        return below.links(p, q) + below.links(a, q);
-    }
-    if q == b {
-        return below.links(p, q) + below.links(p, a);
-    }
-    below.links(p, q)
-}
-
-// The drain links of `p` once `a` is merged into `b`.
-fn joined_drain<B: Board>(below: &B, a: usize, b: usize, p: usize) -> u32
-    requires { joined_s a b (B.Board.shape below.now) p ≤ 500000 }
-    ensures { result ≡ joined_s a b (B.Board.shape below.now) p }
-{
-    if p == b {
-        return below.drain(p) + below.drain(a);
-    }
-    below.drain(p)
 }
 
 impl<B: Board> Board for Merge<B> {
@@ -157,13 +134,13 @@ impl<B: Board> Board for Merge<B> {
 
     ghost sound = { λ e. merge_sound (B.Board.shape e.below) (B.Board.sound e.below) e.pair };
 
+    #[tactic(auto, using(crate::specs::Merged::at_sites))]
     fn count(&self) -> usize {
-        match self.active() {
-            None => self.below.count(),
-            Some(_) => self.below.count() - 1,
-        }
+        let n = self.below.count();
+        if self.active().is_some() { n - 1 } else { n }
     }
 
+    #[tactic(auto, using(crate::specs::Merged::at_m, crate::specs::Merged::off_zero))]
     fn links(&self, u: usize, v: usize) -> u32 {
         let Some(pair) = self.active() else {
             return self.below.links(u, v);
@@ -172,15 +149,10 @@ impl<B: Board> Board for Merge<B> {
         if u >= n || v >= n {
             return 0;
         }
-        joined_links(
-            &self.below,
-            pair.a,
-            pair.b,
-            lifted(pair.a, u),
-            lifted(pair.a, v),
-        )
+        pair.links(&self.below, lifted(pair.a, u), lifted(pair.a, v))
     }
 
+    #[tactic(auto, using(crate::specs::Merged::at_s, crate::specs::Merged::at_sites, crate::specs::Merged::merge_sound))]
     fn drain(&self, v: usize) -> u32 {
         let Some(pair) = self.active() else {
             return self.below.drain(v);
@@ -188,9 +160,10 @@ impl<B: Board> Board for Merge<B> {
         if v >= self.below.count() - 1 {
             return 0;
         }
-        joined_drain(&self.below, pair.a, pair.b, lifted(pair.a, v))
+        pair.drain(&self.below, lifted(pair.a, v))
     }
 
+    #[tactic(auto, using(crate::specs::Merged::off_zero))]
     fn next(&self, v: usize, j: usize) -> Option<usize> {
         let Some(pair) = self.active() else {
             return self.below.next(v, j);
@@ -199,15 +172,7 @@ impl<B: Board> Board for Merge<B> {
         if v >= n || j >= n {
             return None;
         }
-        let Some(u) = joined_next(
-            &self.below,
-            pair.a,
-            pair.b,
-            lifted(pair.a, v),
-            lifted(pair.a, j),
-        ) else {
-            return None;
-        };
-        if u < pair.a { Some(u) } else { Some(u - 1) }
+        let u = pair.next(&self.below, lifted(pair.a, v), lifted(pair.a, j))?;
+        Some(lowered(pair.a, u))
     }
 }

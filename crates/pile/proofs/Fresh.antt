@@ -1,5 +1,5 @@
 -- A layer just made, seen from the board that it was laid on.
-use Rattle.std.proofs.Common.{◌≡◌, ℕ, true, List, None, Ok, Err, Option, Result, ap, ◌∙◌, subst, inl, inr, arith}
+use Rattle.std.proofs.Common.{◌≡◌, ℕ, true, List, [], None, Ok, Err, Option, Result, refl, ap, ◌∙◌, subst, inl, inr, arith}
 use Rattle.refusal.specs.declared.Part.TheVariants as part
 use Rattle.refusal.specs.declared.Refusal.{Refusal}
 use Rattle.refusal.specs.Table.{Passed, First, Refused}
@@ -8,12 +8,11 @@ use Rattle.board.specs.declared.link.Link.{Link}
 use Rattle.board.specs.declared.link.End.{End}
 use Rattle.board.specs.declared.link.End.TheVariants.{Site, Drain}
 use Rattle.layer.specs.declared.merge.Pair.{Pair}
-use Rattle.board.specs.Links.{all_fit}
 use Rattle.board.specs.Grids.{grid_of, grid_checks}
 use Rattle.layer.specs.Earths.{earthed, earth_checks, Earthing}
 use Rattle.layer.specs.Merges.{merged, merge_checks, Merging}
-use Rattle.layer.specs.Cuts.{cut_of, cut_by, lessened, standing, cut_checks, Cutting}
-use Rattle.board.specs.Tables.{m_of_none, s_of_none, all_fit_none}
+use Rattle.layer.specs.Cuts.{all_on, cut_of, cut_by, lessened, standing, cut_checks, Cutting}
+use Rattle.layer.specs.Cutting.{cut_none}
 use Rattle.pile.specs.Piles.{cut_once, first_cut_checks, Piled, OnGrid}
 
 pub fresh_earth : (x y : Shape) (o o1 : Option ℕ) (w : ℕ) (r : Result Unit Refusal) → x ≡ y → o ≡ None → Earthing x o o1 w r → Earthing y None o1 w r
@@ -28,21 +27,20 @@ fresh_merge x y o o1 a b r p q h =
     let Q : Option Pair → Type 0 = λ z. Merging y z o1 a b r in
     subst Q q (subst P p h)
 
-pub fresh_cut : (x y : Shape) (n n1 : ℕ) (xs ys : List Link) (a : ℕ) (b : End) (k : ℕ) (r : Result Unit Refusal) → x ≡ y → n ≡ 0 → Cutting x n xs n1 ys a b k r → Cutting y 0 xs n1 ys a b k r
-fresh_cut x y n n1 xs ys a b k r p q h =
-    let P : Shape → Type 0 = λ z. Cutting z n xs n1 ys a b k r in
-    let Q : ℕ → Type 0 = λ z. Cutting y z xs n1 ys a b k r in
+pub fresh_cut : (x y : Shape) (xs ys : List Link) (a : ℕ) (b : End) (k : ℕ) (r : Result Unit Refusal) → x ≡ y → xs ≡ [] → Cutting x xs ys a b k r → Cutting y [] ys a b k r
+fresh_cut x y xs ys a b k r p q h =
+    let P : Shape → Type 0 = λ z. Cutting z xs ys a b k r in
+    let Q : List Link → Type 0 = λ z. Cutting y z ys a b k r in
     subst Q q (subst P p h)
 
 -- nothing is cut yet
-all_stand : (x : Shape) (xs : List Link) (a : ℕ) (b : End) → standing (lessened x 0 xs) a b ≡ standing x a b
-all_stand x xs a (Site y) = omega (arith, m_of_none xs a y)
-all_stand x xs a Drain = omega (arith, s_of_none xs a)
+all_stand : (x : Shape) (a : ℕ) (b : End) → standing (lessened x []) a b ≡ standing x a b
+all_stand x a (Site y) = omega arith
+all_stand x a Drain = omega arith
 
-pub first_refused : (x : Shape) (xs : List Link) (a : ℕ) (b : End) (k : ℕ) (e : Refusal)
-    → Refused (cut_checks x 0 xs a b k) part.Cut e → Refused (first_cut_checks x a b k) part.Cut e
-first_refused x xs a b k e h = record { by = go h.by; from = h.from } where
-  go : First (cut_checks x 0 xs a b k) e.row e.place → First (first_cut_checks x a b k) e.row e.place
+pub first_refused : (x : Shape) (a : ℕ) (b : End) (k : ℕ) (e : Refusal) → Refused (cut_checks x [] a b k) part.Cut e → Refused (first_cut_checks x a b k) part.Cut e
+first_refused x a b k e h = record { by = go h.by; from = h.from } where
+  go : First (cut_checks x [] a b k) e.row e.place → First (first_cut_checks x a b k) e.row e.place
   go (inl f) = inl f
   go (inr f) = inr (
     f.0,
@@ -53,7 +51,7 @@ first_refused x xs a b k e h = record { by = go h.by; from = h.from } where
         elim t.1 [
           | inl u ↦ absurd (omega (arith, u.1.1))
           | inr u ↦ elim u.1 [
-            | inl v ↦ inl (v.0, (v.1.0, omega (arith, all_stand x xs a b)))
+            | inl v ↦ inl (v.0, (v.1.0, omega (arith, all_stand x a b)))
             | inr v ↦ absurd v.1
           ]
         ],
@@ -61,29 +59,27 @@ first_refused x xs a b k e h = record { by = go h.by; from = h.from } where
     ],
   )
 
-pub first_passed : (x : Shape) (xs : List Link) (a : ℕ) (b : End) (k : ℕ) → Passed (cut_checks x 0 xs a b k) → Passed (first_cut_checks x a b k)
-first_passed x xs a b k h = (h.0, (h.1.0, ((λ p f. h.1.1.1.0 p (f.0, omega (arith, all_stand x xs a b))), tt)))
+pub first_passed : (x : Shape) (a : ℕ) (b : End) (k : ℕ) → Passed (cut_checks x [] a b k) → Passed (first_cut_checks x a b k)
+first_passed x a b k h = (h.0, (h.1.0, ((λ p f. h.1.1.1.0 p (f.0, omega (arith, all_stand x a b))), tt)))
 
-pub first_cut : (x y : Shape) (n n1 : ℕ) (xs ys : List Link) (a : ℕ) (b : End) (k : ℕ) → cut_of x n xs ≡ y → x ≡ y → n ≡ 0
-    → (all_fit x.sites xs n ≡ true → cut_of x n1 ys ≡ cut_by (cut_of x n xs) (record { site = a; other = b; count = k }))
-    → cut_of x n1 ys ≡ cut_once y a b k
-first_cut x y n n1 xs ys a b k e p q h =
-    h (ap (λ z. all_fit x.sites xs z) q ∙ all_fit_none x.sites xs) ∙ ap (λ z. cut_by z (record { site = a; other = b; count = k })) e
+pub first_cut : (x : Shape) (ys : List Link) (a : ℕ) (b : End) (k : ℕ) → (all_on x.sites [] ≡ true → cut_of x ys ≡ cut_by (cut_of x []) (record { site = a; other = b; count = k })) → cut_of x ys ≡ cut_once x a b k
+first_cut x ys a b k h = h refl ∙ ap (λ z. cut_by z (record { site = a; other = b; count = k })) (cut_none x)
 
 -- the third of three layers: y is the merged board below it, z the earthed one below that
-pub third : {C : Type 0} (x y z : Shape) (w : ℕ) (p : Pair) (l : Link) (shape : C → Shape) (r : Result C Refusal)
-    → z ≡ earthed w x → y ≡ merged p.a p.b z → Passed (earth_checks x None w) → Passed (merge_checks z None p.a p.b)
+pub third : {C : Type 0} (x y z : Shape) (w : ℕ) (p : Pair) (l : Link) (k : ℕ) (shape : C → Shape) (r : Result C Refusal)
+    → k ≡ l.count → z ≡ earthed w x → y ≡ merged p.a p.b z → Passed (earth_checks x None w) → Passed (merge_checks z None p.a p.b)
     → elim r as (λ t. Type 0) [
-      | Ok e ↦ Passed (first_cut_checks y l.site l.other l.count) × (shape e ≡ cut_once y l.site l.other l.count)
-      | Err e ↦ Refused (first_cut_checks y l.site l.other l.count) part.Cut e
+      | Ok e ↦ Passed (first_cut_checks y l.site l.other k) × (shape e ≡ cut_once y l.site l.other k)
+      | Err e ↦ Refused (first_cut_checks y l.site l.other k) part.Cut e
     ]
     → Piled x w p l shape r
-third x y z w p l shape (Ok c) ez ey pe pm h =
-    h.1 ∙ ap (λ t. cut_by t l) (ey ∙ ap (merged p.a p.b) ez)
-third x y z w p l shape (Err e) ez ey pe pm h =
+third x y z w p l k shape (Ok c) ek ez ey pe pm h =
+    h.1 ∙ ap (cut_once y l.site l.other) ek ∙ ap (λ t. cut_by t l) (ey ∙ ap (merged p.a p.b) ez)
+third x y z w p l k shape (Err e) ek ez ey pe pm h =
     let P : Shape → Type 0 = λ t. Passed (merge_checks t None p.a p.b) in
     let Q : Shape → Type 0 = λ t. Refused (first_cut_checks t l.site l.other l.count) part.Cut e in
-    inr (inr (pe, subst P ez pm, subst Q (ey ∙ ap (merged p.a p.b) ez) h))
+    let K : ℕ → Type 0 = λ n. Refused (first_cut_checks y l.site l.other n) part.Cut e in
+    inr (inr (pe, subst P ez pm, subst Q (ey ∙ ap (merged p.a p.b) ez) (subst K ek h)))
 
 -- the pile, on a board that is known by another name
 pub renamed : {C : Type 0} (x y : Shape) (w : ℕ) (p : Pair) (l : Link) (shape : C → Shape) (r : Result C Refusal) → x ≡ y → Piled x w p l shape r → Piled y w p l shape r

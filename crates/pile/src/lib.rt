@@ -27,10 +27,8 @@ pub fn with_earth<B: Board + Drop>(board: B, w: usize) -> Result<Earth<B>, Refus
     ensures { elim result [ Ok e ↦ Passed (earth_checks (B.Board.shape board) Nothing w) × (earth_of (B.Board.shape e.below) e.site ≡ earthed w (B.Board.shape board)) | Err e ↦ Refused (earth_checks (B.Board.shape board) Nothing w) parts.Earth e ] }
 {
     let mut earth = Earth::idle(board);
-    match earth.earth(w) {
-        Ok(()) => Ok(earth),
-        Err(refusal) => Err(refusal),
-    }
+    earth.earth(w)?;
+    Ok(earth)
 }
 
 // The board with `a` merged into `b`.
@@ -38,49 +36,42 @@ pub fn with_merge<B: Board + Drop>(board: B, a: usize, b: usize) -> Result<Merge
     ensures { elim result [ Ok e ↦ Passed (merge_checks (B.Board.shape board) Nothing a b) × (merge_of (B.Board.shape e.below) e.pair ≡ merged a b (B.Board.shape board)) | Err e ↦ Refused (merge_checks (B.Board.shape board) Nothing a b) parts.Merge e ] }
 {
     let mut merge = Merge::idle(board);
-    match merge.merge(a, b) {
-        Ok(()) => Ok(merge),
-        Err(refusal) => Err(refusal),
-    }
+    merge.merge(a, b)?;
+    Ok(merge)
 }
 
 // The board with `k` links of `a` and `b` cut.
 pub fn with_cut<B: Board + Drop>(board: B, a: usize, b: End, k: u64) -> Result<Cut<B>, Refusal>
-    ensures { elim result [ Ok e ↦ Passed (first_cut_checks (B.Board.shape board) a b k) × (cut_of (B.Board.shape e.below) e.held e.entries ≡ cut_once (B.Board.shape board) a b k) | Err e ↦ Refused (first_cut_checks (B.Board.shape board) a b k) parts.Cut e ] }
+    ensures { elim result [ Ok e ↦ Passed (first_cut_checks (B.Board.shape board) a b k) × (cut_of (B.Board.shape e.below) e.entries.items ≡ cut_once (B.Board.shape board) a b k) | Err e ↦ Refused (first_cut_checks (B.Board.shape board) a b k) parts.Cut e ] }
 {
     let mut cut = Cut::idle(board);
-    match cut.cut(a, b, k) {
-        Ok(()) => Ok(cut),
-        Err(refusal) => Err(refusal),
-    }
+    cut.cut(a, b, k)?;
+    Ok(cut)
+}
+
+// What a pile does to the board below it: the site that is earthed, the pair that is merged then, the links that are cut then.
+#[derive(Clone, Copy)]
+pub struct Plan {
+    pub site: usize,
+    pub pair: Pair,
+    pub link: Link,
 }
 
 // Earth lowest, merge on it, cut on top.
-pub fn pile_up<B: Board + Drop>(
-    board: B,
-    w: usize,
-    pair: Pair,
-    link: Link,
-) -> Result<Cut<Merge<Earth<B>>>, Refusal>
-    ensures { Piled (B.Board.shape board) w pair link (λ e. cut_of (merge_of (earth_of (B.Board.shape e.below.below.below) e.below.below.site) e.below.pair) e.held e.entries) result }
+pub fn pile_up<B: Board + Drop>(board: B, plan: Plan) -> Result<Cut<Merge<Earth<B>>>, Refusal>
+    ensures { Piled (B.Board.shape board) plan.site plan.pair plan.link (λ e. cut_of (merge_of (earth_of (B.Board.shape e.below.below.below) e.below.below.site) e.below.pair) e.entries.items) result }
 {
-    let earth = with_earth(board, w)?;
+    let Plan { site, pair, link } = plan;
+    let earth = with_earth(board, site)?;
     let merge = with_merge(earth, pair.a, pair.b)?;
-    with_cut(merge, link.site, link.other, link.count as u64)
+    with_cut(merge, link.site, link.other, u64::from(link.count))
 }
 
 // The pile on a grid.
-pub fn on_grid(
-    rows: usize,
-    columns: usize,
-    w: usize,
-    pair: Pair,
-    link: Link,
-) -> Result<Cut<Merge<Earth<Grid>>>, Refusal>
-    ensures { OnGrid rows columns w pair link (λ e. cut_of (merge_of (earth_of (grid_of e.below.below.below.rows e.below.below.below.columns) e.below.below.site) e.below.pair) e.held e.entries) result }
+pub fn on_grid(rows: usize, columns: usize, plan: Plan) -> Result<Cut<Merge<Earth<Grid>>>, Refusal>
+    ensures { OnGrid rows columns plan.site plan.pair plan.link (λ e. cut_of (merge_of (earth_of (grid_of e.below.below.below.rows e.below.below.below.columns) e.below.below.site) e.below.pair) e.entries.items) result }
 {
-    let grid = Grid::new(rows, columns)?;
-    pile_up(grid, w, pair, link)
+    pile_up(Grid::new(rows, columns)?, plan)
 }
 
 // A list of three sites in a row, two links to each neighbour and one from each end to the drain.
@@ -96,9 +87,8 @@ pub fn row_of_three() -> Result<LinkList, Refusal>
 }
 
 // The pile on that list.
-pub fn on_list(w: usize, pair: Pair, link: Link) -> Result<Cut<Merge<Earth<LinkList>>>, Refusal>
-    ensures { Piled row_of_three w pair link (λ e. cut_of (merge_of (earth_of (shape_of e.below.below.below) e.below.below.site) e.below.pair) e.held e.entries) result }
+pub fn on_list(plan: Plan) -> Result<Cut<Merge<Earth<LinkList>>>, Refusal>
+    ensures { Piled row_of_three plan.site plan.pair plan.link (λ e. cut_of (merge_of (earth_of (shape_of e.below.below.below) e.below.below.site) e.below.pair) e.entries.items) result }
 {
-    let list = row_of_three()?;
-    pile_up(list, w, pair, link)
+    pile_up(row_of_three()?, plan)
 }

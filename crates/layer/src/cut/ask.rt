@@ -1,54 +1,76 @@
 // The questions to a cut layer.
 ghost use Rattle.std.specs.Prelude.{◌≡◌, ℕ};
-ghost use Rattle.board.specs.Links.{all_fit};
-ghost use Rattle.layer.specs.Cuts.{cut_of};
+ghost use Rattle.board.specs.Links.{fits};
+ghost use Rattle.layer.specs.Cuts.{all_on, lessened, cut_of};
 ghost use Rattle.layer.specs.Cutting.{cut_sound};
 
 use super::Cut;
-use super::make::rest;
-use crate::table::{all_on, sum_drain, sum_links};
 use board::Board;
+use board::link::{Link, drain_of, links_of, misfit};
+
+// Whether `l` is on a board of `sites` sites.
+fn is_on(sites: usize, l: Link) -> bool
+    ensures { result ≡ fits sites l.site l.other }
+{
+    misfit(sites, l.site, l.other).is_none()
+}
 
 impl<B: Board> Cut<B> {
     // Whether every entry is on the board below.
     fn takes(&self) -> bool
-        ensures { result ≡ all_fit (B.Board.shape self.now.below).sites self.now.entries self.now.held }
+        ensures { result ≡ all_on (B.Board.shape self.now.below).sites self.now.entries.items }
     {
-        all_on(&self.entries, self.held, self.below.count())
+        let sites = self.below.count();
+        self.entries.iter().all(|l| is_on(sites, *l))
+    }
+
+    // The links between `u` and `v` once the entries are taken away.
+    pub(super) fn links_left(&self, u: usize, v: usize) -> u32
+        ensures { result ≡ (lessened (B.Board.shape self.now.below) self.now.entries.items).m u v }
+    {
+        let taken = self.entries.iter().map(|l| links_of(*l, u, v)).sum();
+        self.below.links(u, v).saturating_sub(taken)
+    }
+
+    // The links between `v` and the drain once the entries are taken away.
+    pub(super) fn drain_left(&self, v: usize) -> u32
+        ensures { result ≡ (lessened (B.Board.shape self.now.below) self.now.entries.items).s v }
+    {
+        let taken = self.entries.iter().map(|l| drain_of(*l, v)).sum();
+        self.below.drain(v).saturating_sub(taken)
     }
 }
 
 impl<B: Board> Board for Cut<B> {
-    ghost shape = { λ e. cut_of (B.Board.shape e.below) e.held e.entries };
+    ghost shape = { λ e. cut_of (B.Board.shape e.below) e.entries.items };
 
-    ghost sound = { λ e. cut_sound (B.Board.shape e.below) (B.Board.sound e.below) e.held e.entries };
+    ghost sound = { λ e. cut_sound (B.Board.shape e.below) (B.Board.sound e.below) e.entries.items };
 
     fn count(&self) -> usize {
         self.below.count()
     }
 
     fn links(&self, u: usize, v: usize) -> u32 {
-        let all = self.below.links(u, v);
-        if !self.takes() {
-            return all;
+        if self.takes() {
+            self.links_left(u, v)
+        } else {
+            self.below.links(u, v)
         }
-        rest(all, sum_links(&self.entries, self.held, u, v))
     }
 
     fn drain(&self, v: usize) -> u32 {
-        let all = self.below.drain(v);
-        if !self.takes() {
-            return all;
+        if self.takes() {
+            self.drain_left(v)
+        } else {
+            self.below.drain(v)
         }
-        rest(all, sum_drain(&self.entries, self.held, v))
     }
 
     fn next(&self, v: usize, j: usize) -> Option<usize> {
         let mut from = j;
+        // Neighbours goes from site 0 on, so that a walk by `next` would pass the sites below `j` again at each step.
         loop {
-            let Some(u) = self.below.next(v, from) else {
-                return None;
-            };
+            let u = self.below.next(v, from)?;
             if self.links(v, u) > 0 {
                 return Some(u);
             }

@@ -9,6 +9,6 @@ use Rattle.pile.proofs.on_list.Goals as goal
 
 pub returns : goal.returns
 returns c =
-    renamed (shape_of c.in_ok-list.list) row_of_three c.args.w c.args.pair c.args.link
-    (λ e. cut_of (merge_of (earth_of (shape_of e.below.below.below) e.below.below.site) e.below.pair) e.held e.entries)
-    c.pile_up.result c.in_ok-list.ensures c.pile_up.ensures
+    renamed (shape_of c.in_ok-row_of_three.field-0) row_of_three c.args.plan.site c.args.plan.pair c.args.plan.link
+    (λ e. cut_of (merge_of (earth_of (shape_of e.below.below.below) e.below.below.site) e.below.pair) e.entries.items)
+    c.pile_up.result c.in_ok-row_of_three.ensures c.pile_up.ensures

@@ -1,43 +1,24 @@
 -- What is left to show of `next`.
-use Rattle.std.proofs.Common.{◌≡◌, ℕ, ◌-◌, ◌<◌, Some, Option, sym, ap, ◌∙◌, inl, inr, arith}
+use Rattle.std.proofs.Common.{◌≡◌, ℕ, Some, Option, sym, ap, ◌∙◌}
 use Rattle.board.specs.Shape.{Shape}
 use Rattle.layer.specs.Layers.{up}
 use Rattle.layer.specs.Earths.{earth_active, earth_of}
-use Rattle.layer.specs.Earthed.{off_zero, at_m}
-use Rattle.layer.specs.Uplifts.{up_below, up_above, but_not, none_up, least_down}
+use Rattle.layer.specs.Earthed.{at_m}
+use Rattle.layer.specs.Uplifts.{none_up, least_down}
 use Rattle.layer.proofs.earth.EarthBoard.next.Goals as goal
 
 -- the links of v, seen from below
 seen : (b : Shape) (o : Option ℕ) (w : ℕ) → earth_active b o ≡ Some w → (v v1 : ℕ) → v1 ≡ up w v → (k : ℕ) → (earth_of b o).m v k ≡ b.m v1 (up w k)
 seen b o w e v v1 ev k = at_m b o w e v k ∙ ap (λ x. b.m x (up w k)) (sym ev)
 
-pub returns-then-v-n : goal.returns-then-v-n
-returns-then-v-n g c =
-    let ok = g.met.B.Board.sound c.args.self.now.below in
-    λ k from. elim c.then-v-n.either [
-      | inl h ↦ off_zero (g.B.Board.shape c.args.self.now.below) c.args.self.now.site c.in-Some.w c.in-Some.ensures.is ok c.args.v k (inl (omega arith))
-      | inr h ↦ off_zero (g.B.Board.shape c.args.self.now.below) c.args.self.now.site c.in-Some.w c.in-Some.ensures.is ok c.args.v k (inr (omega arith))
-    ]
-
-pub returns-in_default-next_but : goal.returns-in_default-next_but
-returns-in_default-next_but g c =
+pub returns-in_err-u : goal.returns-in_err-u
+returns-in_err-u g c =
     let b = g.B.Board.shape c.args.self.now.below in
     let same = seen b c.args.self.now.site c.in-Some.w c.in-Some.ensures.is c.args.v _ c.lifted.ensures in
-    none_up c.in-Some.w (b.m _) _ same c.args.j _ c.lifted-2.ensures c.in_default-next_but.ensures
+    rw c.from_residual.ensures (none_up c.in-Some.w (b.m _) _ same c.args.j _ c.lifted-2.ensures c.in_err-u.ensures)
 
-pub returns-then-u-w : goal.returns-then-u-w
-returns-then-u-w g c =
+pub returns : goal.returns
+returns g c =
     let b = g.B.Board.shape c.args.self.now.below in
     let same = seen b c.args.self.now.site c.in-Some.w c.in-Some.ensures.is c.args.v _ c.lifted.ensures in
-    least_down c.in-Some.w (b.m _) _ same c.args.j _ _ _ c.lifted-2.ensures c.in-Some-next_but.ensures
-    (sym (up_below c.in-Some.w c.in-Some-next_but.u c.if-u-w.true))
-
-pub returns-else-u-w : goal.returns-else-u-w
-returns-else-u-w g c =
-    let b = g.B.Board.shape c.args.self.now.below in
-    let w = c.in-Some.w in
-    let u = c.in-Some-next_but.u in
-    let least = c.in-Some-next_but.ensures in
-    let same = seen b c.args.self.now.site c.in-Some.w c.in-Some.ensures.is c.args.v _ c.lifted.ensures in
-    let more : w < u = omega (arith, but_not w u (b.m c.lifted.result) least.linked, c.if-u-w.false) in
-    least_down c.in-Some.w (b.m _) _ same c.args.j _ _ _ c.lifted-2.ensures least (omega (arith, up_above w (u - 1) (omega arith)))
+    least_down c.in-Some.w (b.m _) _ same c.args.j _ _ _ c.lifted-2.ensures c.in_ok-u.ensures (sym c.lowered.ensures)
