@@ -1,5 +1,5 @@
 -- What settling keeps from one visit to the next, and what it ends with.
-use Rattle.std.proofs.Common.{◌≡◌, ℕ, ◌+◌, ◌-◌, ◌*◌, ◌<◌, ◌≤◌, true, false, List, [], ◌∷◌, length, set, sym, ap, ◌∙◌, subst, inl, inr, mul-le-mul_right, zero-mul, arith}
+use Rattle.std.proofs.Common.{◌≡◌, ℕ, ◌+◌, ◌-◌, ◌*◌, ◌<◌, ◌≤◌, Bool, true, false, not, List, [], ◌∷◌, length, set, Option, Some, None, is_some, refl, sym, ap, ◌∙◌, subst, inl, inr, mul-le-mul_right, zero-mul, arith}
 use native.Mathlib.Decide.{ℕ_discrete}
 use Rattle.std.proofs.lemmas.List.{get_or_past}
 use Rattle.std.proofs.lemmas.Bool.{cases_lt, true≢false}
@@ -13,6 +13,7 @@ use Rattle.settling.specs.declared.settle.Outcome.{Outcome}
 use Rattle.firing.specs.Firing.{at}
 use Rattle.settling.specs.Searches as Searches
 use Rattle.settling.specs.Waits.{Turned}
+use Rattle.settling.specs.Firings.{LowestReady}
 use Rattle.settling.specs.Marks.{Queued, Covered, Visited}
 use Rattle.settling.specs.Settlings.{Ran, Noted, Tallied, Counted}
 use Rattle.settling.proofs.Marking.{queued_pop, queued_turned, popped_on, covered_pop, covered_fire, none_marked}
@@ -79,6 +80,14 @@ falls_fire limit k n t l l' some le wait =
     let fewer : (limit - (k + t)) + 1 ≤ limit - k = omega arith in
     omega (arith, mul-le-mul_right (n + 1) fewer)
 
+not_false : (r : Bool) → false ≡ not r → r ≡ true
+not_false true e = refl
+not_false false e = e
+
+not_true : (r : Bool) → true ≡ not r → r ≡ false
+not_true true e = e
+not_true false e = refl
+
 module _ {b : Shape} (sound : Sound b) (c h : ℕ → ℕ) (cs cs' : List ℕ) (budget : ℕ) (o : Outcome) (t : Tallied b c h cs cs' o.fired) (within : o.fired ≤ budget) where
   abbrev r : Ran b c h o.fired
   r = t.ran
@@ -138,3 +147,8 @@ module _ {b : Shape} (sound : Sound b) (c h : ℕ → ℕ) (cs cs' : List ℕ) (
     t.long,
     t.grown,
   )
+
+  -- whether no site can fire, once the budget is spent
+  pub ended_test : (r : Option ℕ) → is_some r ≡ not o.still → budget ≤ o.fired → LowestReady b h r → Counted b c h budget o cs cs'
+  ended_test None e spent still = ended_still (not_false o.still e) still
+  ended_test (Some v) e spent low = ended_spent (not_true o.still e) (omega arith) v low

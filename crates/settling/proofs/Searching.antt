@@ -1,7 +1,7 @@
 -- The turns of a search.
 use Rattle.std.proofs.Common.{◌≡◌, ℕ, ◌+◌, ◌-◌, ◌<◌, ◌≤◌, List, [], ◌∷◌, length, set, sym, refl, ap, ◌∙◌, subst, inl, inr, arith, length-set}
-use Rattle.std.proofs.lemmas.Bool.{cases_lt, cases_eq, cases_order}
-use Rattle.board.specs.Shape.{Shape, Sound, Least, sum_below}
+use Rattle.std.proofs.lemmas.Bool.{cases_lt, cases_eq}
+use Rattle.board.specs.Shape.{Shape, Sound, sum_below}
 use Rattle.board.specs.Sums.{sum_const}
 use Rattle.board.specs.Walks.{linked_on}
 use Rattle.firing.specs.Reaching.{Reaches, out, along}

@@ -15,9 +15,7 @@ use waiting::WaitingList;
 fn clear(bytes: &mut [u8])
     ensures { (u : ℕ) → u < length bytes.new → mark bytes.new u ≡ 0 }
 {
-    for i in 0..bytes.len() {
-        bytes[i] = 0;
-    }
+    bytes.fill(0);
 }
 
 // Finds each site that is linked to the drain.
@@ -56,12 +54,7 @@ fn lowest_unmarked(bytes: &[u8], n: usize) -> Option<usize>
     requires { n ≤ length bytes.now }
     ensures { LowestUnmarked n bytes.now result }
 {
-    for v in 0..n {
-        if bytes[v] == 0 {
-            return Some(v);
-        }
-    }
-    None
+    bytes[..n].iter().position(|b| *b == 0)
 }
 
 // The lowest site that does not reach the drain, or none: all do. Work memory may read anything afterwards.
@@ -75,11 +68,7 @@ pub fn reach<B: Board, E: Entry>(
 {
     let n = board.count();
     if waiting.len() < n || bytes.len() < n {
-        return Err(Refusal {
-            row: Row::Memory,
-            place: 0,
-            part,
-        });
+        return Err(part.refuse(Row::Memory));
     }
     clear(bytes);
     let mut list = WaitingList::new(waiting);

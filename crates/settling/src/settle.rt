@@ -6,7 +6,7 @@ ghost use Rattle.firing.specs.Firing.{Still};
 ghost use Rattle.waiting.specs.WaitingLists.{waits, room};
 ghost use Rattle.firing.specs.Firing.{at};
 ghost use Rattle.settling.specs.Marks.{Queued, Covered, Visited};
-ghost use Rattle.settling.specs.Settlings.{Noted, Tallied, Ended, Counted, Fit, Checked, SettledBy, settle_checks};
+ghost use Rattle.settling.specs.Settlings.{Noted, Tallied, Counted, Fit, Checked, SettledBy, settle_checks};
 
 use crate::fire::{all_grains, can_fire, fire_times, is_enough, lowest_ready};
 use crate::waits::{wait, wait_round};
@@ -14,7 +14,8 @@ use board::{Board, degree};
 use refusal::{Part, Refusal, Row};
 use waiting::WaitingList;
 
-// How many firings were made, and whether no site can fire after them.
+// How many firings were made, and whether no site can fire after them: each says the same whatever the other is, so no variant
+// would leave one out.
 #[derive(Clone, Copy, PartialEq, Eq, Debug)]
 pub struct Outcome {
     pub fired: u64,
@@ -29,7 +30,7 @@ fn visit<B: Board>(board: &B, heights: &mut [u64], v: usize, limit: u64) -> u64
     requires some { 1 ≤ limit }
     ensures { Visited (B.Board.shape board.now) v limit heights.old heights.new result }
 {
-    let links = degree(board, v) as u64;
+    let links = u64::from(degree(board, v));
     if !is_enough(links, heights[v]) {
         return 0;
     }
@@ -43,10 +44,9 @@ fn note(counts: &mut [u64], v: usize, times: u64)
     requires { at counts.old v + times < 2 ^ 64 }
     ensures { Noted v times counts.old counts.new }
 {
-    if v >= counts.len() {
-        return;
+    if v < counts.len() {
+        counts[v] += times;
     }
-    counts[v] += times;
 }
 
 // Fires the waiting sites, first in, first out, until none waits or `limit` firings are made; how many were made.
@@ -113,27 +113,12 @@ pub(crate) fn check<B: Board>(
 {
     let n = board.count();
     if heights.len() != n || slots < n || bytes < n {
-        return Err(Refusal {
-            row: Row::Memory,
-            place: 0,
-            part,
-        });
+        return Err(part.refuse(Row::Memory));
     }
-    if budget < 1 || budget > 1_000_000_000 {
-        return Err(Refusal {
-            row: Row::Limit,
-            place: 0,
-            part,
-        });
+    if budget < 1 || budget > 1_000_000_000 || all_grains(heights, 1_000_000).is_none() {
+        return Err(part.refuse(Row::Limit));
     }
-    match all_grains(heights, 1_000_000) {
-        Some(_) => Ok(()),
-        None => Err(Refusal {
-            row: Row::Limit,
-            place: 0,
-            part,
-        }),
-    }
+    Ok(())
 }
 
 // Settles heights that were checked, and adds each site's firings to its count.
@@ -152,31 +137,8 @@ pub(crate) fn settle_counted<B: Board>(
     let mut list = WaitingList::new(waiting);
     scan(board, heights, &mut list, marks);
     let fired = work_off(board, heights, counts, &mut list, marks, budget);
-    if fired < budget {
-        return Outcome { fired, still: true };
-    }
-    match lowest_ready(board, heights) {
-        None => Outcome { fired, still: true },
-        Some(_) => Outcome {
-            fired,
-            still: false,
-        },
-    }
-}
-
-// Settles heights that were checked.
-fn settle_fit<B: Board>(
-    board: &B,
-    heights: &mut [u64],
-    waiting: &mut [usize],
-    marks: &mut [u8],
-    budget: u64,
-) -> Outcome
-    requires { Fit (B.Board.shape board.now).sites heights.old (length waiting.old) (length marks.old) }
-    ensures { Ended (B.Board.shape board.now) (at heights.old) (at heights.new) budget result }
-{
-    let mut counts = [0u64; 0];
-    settle_counted(board, heights, &mut counts, waiting, marks, budget)
+    let still = fired < budget || lowest_ready(board, heights).is_none();
+    Outcome { fired, still }
 }
 
 // Settles `heights`: legal firings only, until no site can fire or `budget` of them are made. The waiting list and the
@@ -192,7 +154,7 @@ pub fn settle<B: Board>(
     ensures { SettledBy (B.Board.shape board.now) heights.old heights.new (length waiting.old) (length marks.old) budget part result }
 {
     check(board, heights, waiting.len(), marks.len(), budget, part)?;
-    Ok(settle_fit(board, heights, waiting, marks, budget))
+    Ok(settle_counted(board, heights, &mut [], waiting, marks, budget))
 }
 
 // The rows by which `settle` refuses, in the order of its checks.

@@ -1,5 +1,5 @@
 -- What is left to show of `search`.
-use Rattle.std.proofs.Common.{◌<◌, ◌≤◌, set, sym, ◌∙◌, subst, arith, length-set}
+use Rattle.std.proofs.Common.{◌<◌, set, sym, ◌∙◌, subst, arith, length-set}
 use Rattle.waiting.specs.WaitingLists.{waits}
 use Rattle.settling.specs.Searches.{Queued, Searching}
 use Rattle.settling.specs.Waits.{Turned}

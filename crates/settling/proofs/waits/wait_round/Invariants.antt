@@ -1,5 +1,5 @@
 -- The loop of `wait_round`: the sites that it has come by have been had wait.
-use Rattle.std.proofs.Common.{◌≡◌, ◌≢◌, ℕ, ◌<◌, ◌≤◌, length}
+use Rattle.std.proofs.Common.{◌≡◌, ◌≢◌, ◌<◌, ◌≤◌, length}
 use Rattle.waiting.specs.WaitingLists.{waits, room}
 use Rattle.settling.specs.Searches.{Queued}
 use Rattle.settling.specs.Waits.{Turned}
