@@ -1,5 +1,5 @@
 -- What settling keeps from one visit to the next, and what it ends with.
-use Rattle.std.proofs.Common.{◌≡◌, ℕ, ◌+◌, ◌-◌, ◌*◌, ◌<◌, ◌≤◌, true, false, List, [], ◌∷◌, length, set, sym, ap, ◌∙◌, subst, inl, inr, mul-le-mul_right, zero-mul, arith}
+use Rattle.std.proofs.Common.{◌≡◌, ℕ, ◌+◌, ◌-◌, ◌*◌, ◌<◌, ◌≤◌, Bool, true, false, not, List, [], ◌∷◌, length, set, Option, Some, None, is_some, refl, sym, ap, ◌∙◌, subst, inl, inr, mul-le-mul_right, zero-mul, arith}
 use native.Mathlib.Decide.{ℕ_discrete}
 use Rattle.std.proofs.lemmas.List.{get_or_past}
 use Rattle.std.proofs.lemmas.Bool.{cases_lt, true≢false}
@@ -11,9 +11,12 @@ use Rattle.firing.proofs.Sums.{sum_jump}
 use Rattle.firing.proofs.Action.{inflow_le, run_follows, least_action, follows_conserves, run_least}
 use Rattle.settling.specs.declared.settle.Outcome.{Outcome}
 use Rattle.firing.specs.Firing.{at}
-use Rattle.settling.specs.Marks.{occurs, Queued, Covered, WaitRound, Visited}
+use Rattle.settling.specs.Searches as Searches
+use Rattle.settling.specs.Waits.{Turned}
+use Rattle.settling.specs.Firings.{LowestReady}
+use Rattle.settling.specs.Marks.{Queued, Covered, Visited}
 use Rattle.settling.specs.Settlings.{Ran, Noted, Tallied, Counted}
-use Rattle.settling.proofs.Marking.{queued_pop, popped_on, covered_pop, covered_fire}
+use Rattle.settling.proofs.Marking.{queued_pop, queued_turned, popped_on, covered_pop, covered_fire, none_marked}
 use Rattle.settling.proofs.Visits.{tallied_more}
 
 -- what holds between two visits
@@ -56,26 +59,34 @@ module _ (b : Shape) (c : ℕ → ℕ) (cs cs' ys ws ws' fs : List ℕ) (k limit
   }
 
   -- a visit with firings, after which the neighbours wait
-  pub going_fire : (zs cs'' ws'' fs'' : List ℕ) (t : ℕ) → ws ≡ v ∷ ws' → Going b c cs cs' ys ws fs k limit → k < limit → 1 ≤ t → Visited b v (limit - k) ys zs t
-      → Noted v t cs' cs'' → WaitRound b v (set fs v 0) ws'' fs'' → Going b c cs cs'' zs ws'' fs'' (k + t) limit
-  going_fire zs cs'' ws'' fs'' t e g less some visit noted round = record {
+  pub going_fire : (zs cs'' ws'' fs'' : List ℕ) (t : ℕ) → b.sites ≤ length fs → ws ≡ v ∷ ws' → Going b c cs cs' ys ws fs k limit → k < limit → 1 ≤ t → Visited b v (limit - k) ys zs t
+      → Noted v t cs' cs'' → Turned (λ u. 0 < b.m v u) 0 (set fs v 0) fs'' → Searches.Queued (λ u. u) b.sites ws'' fs'' → Going b c cs cs'' zs ws'' fs'' (k + t) limit
+  going_fire zs cs'' ws'' fs'' t long e g less some visit noted turned after = record {
     tallied = tallied_more b c (at ys) (at zs) cs cs' cs'' v t k (going_on e g) (visit.linked some) g.tallied visit.fires noted;
-    queued = round.queued;
-    covered = λ l. covered_fire b (at ys) (at zs) v fs ws'' fs''
+    queued = queued_turned (λ u. 0 < b.m v u) b.sites ws' (set fs v 0) ws'' fs'' (going_popped long e g) turned after;
+    covered = λ l. covered_fire b (at ys) (at zs) v fs ws' fs'' long
         (λ u on ne none. omega (arith, visit.fires.gets u on ne, ap (λ m. m * t) none, zero-mul t))
-        (visit.rest (omega arith)) (g.covered less) round;
+        (visit.rest (omega arith)) (g.covered less) (going_popped long e g) turned;
     within = omega (arith, visit.within);
   }
 
 pub going_still : (b : Shape) (c : ℕ → ℕ) (cs cs' ys ws fs : List ℕ) (k limit : ℕ) → ws ≡ [] → Going b c cs cs' ys ws fs k limit → k < limit → Still b (at ys)
 going_still b c cs cs' ys ws fs k limit e g less v l can =
-    omega (arith, g.covered less v l can, g.queued.marked v l, ap (occurs v) e)
+    none_marked b.sites ws fs e g.queued v l (g.covered less v l can)
 
 -- what falls with each visit: firings are left, or sites that wait
 pub falls_fire : (limit k n t l l' : ℕ) → 1 ≤ t → k + t ≤ limit → l' ≤ n → (limit - (k + t)) * (n + 1) + l' < (limit - k) * (n + 1) + l
 falls_fire limit k n t l l' some le wait =
     let fewer : (limit - (k + t)) + 1 ≤ limit - k = omega arith in
     omega (arith, mul-le-mul_right (n + 1) fewer)
+
+not_false : (r : Bool) → false ≡ not r → r ≡ true
+not_false true e = refl
+not_false false e = e
+
+not_true : (r : Bool) → true ≡ not r → r ≡ false
+not_true true e = e
+not_true false e = refl
 
 module _ {b : Shape} (sound : Sound b) (c h : ℕ → ℕ) (cs cs' : List ℕ) (budget : ℕ) (o : Outcome) (t : Tallied b c h cs cs' o.fired) (within : o.fired ≤ budget) where
   abbrev r : Ran b c h o.fired
@@ -136,3 +147,8 @@ module _ {b : Shape} (sound : Sound b) (c h : ℕ → ℕ) (cs cs' : List ℕ) (
     t.long,
     t.grown,
   )
+
+  -- whether no site can fire, once the budget is spent
+  pub ended_test : (r : Option ℕ) → is_some r ≡ not o.still → budget ≤ o.fired → LowestReady b h r → Counted b c h budget o cs cs'
+  ended_test None e spent still = ended_still (not_false o.still e) still
+  ended_test (Some v) e spent low = ended_spent (not_true o.still e) (omega arith) v low

@@ -1,13 +1,13 @@
 -- What a walk over `next` has added to the heights.
-use Rattle.std.proofs.Common.{◌≡◌, ℕ, ◌+◌, ◌*◌, ◌<◌, ◌≤◌, true, List, length, set, sym, refl, ap, ◌∙◌, inl, inr, mul-le-mul_right, zero-mul, mul-one, arith, get_or-set_other, get_or-set_same}
-use Rattle.std.proofs.lemmas.Bool.{cases_lt, cases_eq, cases_order}
+use Rattle.std.proofs.Common.{◌≡◌, ℕ, ◌+◌, ◌*◌, ◌<◌, ◌≤◌, Bool, true, false, not, List, Option, Some, None, length, is_some, set, sym, refl, ap, ◌∙◌, inl, inr, mul-le-mul_right, zero-mul, mul-one, arith, get_or-set_other, get_or-set_same}
+use Rattle.std.proofs.lemmas.Bool.{cases_lt, cases_eq, cases_order, true≢false}
 use Rattle.board.specs.Shape.{Shape, Sound, Least, deg}
 use Rattle.std.proofs.lemmas.List.{get_or_past}
 use Rattle.board.specs.Walks.{linked_on, m_deg}
 use Rattle.board.specs.Sums.{sum_term}
 use Rattle.firing.specs.Firing.{CanFire, Fires}
 use Rattle.firing.specs.Firing.{at}
-use Rattle.settling.specs.Firings.{grains, FiresTimes, LightNear}
+use Rattle.settling.specs.Firings.{grains, Weighs, FiresTimes, LightNear}
 
 -- the heights xs after v has sent its grains, k times its links, to each site below j
 pub record Spread (b : Shape) (v k j : ℕ) (xs ys : List ℕ) : Type 0 where
@@ -82,10 +82,7 @@ low_all xs limit le u = elim (cases_lt u (length xs)) [
   | inr l ↦ omega (arith, get_or_past xs u 0 l)
 ]
 
--- a walk over `next` has met no site above 1,000,000
-pub light_all : (b : Shape) (xs : List ℕ) (v j : ℕ) → at xs v ≤ 1000000 → ((u : ℕ) → u < j → 0 < b.m v u → at xs u ≤ 1000000) → ((k : ℕ) → j ≤ k → b.m v k ≡ 0) → LightNear b xs v true
-light_all b xs v j here met none u (inl same) = omega (arith, ap (at xs) same)
-light_all b xs v j here met none u (inr linked) = elim (cases_lt u j) [
-  | inl l ↦ met u l linked
-  | inr l ↦ absurd (omega (arith, none u l))
-]
+-- what was weighed is low
+pub low_weighed : (xs : List ℕ) (limit : ℕ) (o : Option ℕ) (r : Bool) → is_some o ≡ not r → r ≡ false → Weighs xs limit o → (u : ℕ) → at xs u ≤ limit
+low_weighed xs limit (Some s) r e f w u = low_all xs limit (omega (arith, w.0, w.1)) u
+low_weighed xs limit None r e f w u = absurd (true≢false (sym (e ∙ ap not f)))

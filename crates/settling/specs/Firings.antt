@@ -39,14 +39,24 @@ abbrev pub LightNear : Shape → List ℕ → ℕ → Bool → Type 0
 LightNear b xs v true = (u : ℕ) → Near b v u → at xs u ≤ 1000000
 LightNear b xs v false = (u : ℕ) × Near b v u × (1000000 < at xs u)
 
+-- one firing of fitting and light heights: v is on the board, and can fire
+abbrev pub site_checks : Shape → List ℕ → ℕ → List Check
+site_checks b xs v =
+    record { row = row.Site; when = λ p. (p ≡ v) × (b.sites ≤ v) }
+    ∷ record { row = row.CannotFire; when = λ p. (p ≡ v) × (CanFire b (at xs) v → ⊥) }
+    ∷ []
+
+-- the heights xs become ys by one legal firing of v; or nothing changes
+abbrev pub FiredLight : Shape → List ℕ → List ℕ → ℕ → Part → Result Unit Refusal → Type 0
+FiredLight b xs ys v part (Ok _) = Passed (site_checks b xs v) × Fires b v (at xs) (at ys)
+FiredLight b xs ys v part (Err e) = Refused (site_checks b xs v) part e × (ys ≡ xs)
+
 -- one firing: as many heights as sites; at most 1,000,000 grains; v is on the board, and can fire
 abbrev pub fire_checks : Shape → List ℕ → ℕ → List Check
 fire_checks b xs v =
     record { row = row.Memory; when = λ p. (p ≡ 0) × (length xs ≢ b.sites) }
     ∷ record { row = row.Limit; when = λ p. (p ≡ 0) × (1000000 < grains xs) }
-    ∷ record { row = row.Site; when = λ p. (p ≡ v) × (b.sites ≤ v) }
-    ∷ record { row = row.CannotFire; when = λ p. (p ≡ v) × (CanFire b (at xs) v → ⊥) }
-    ∷ []
+    ∷ site_checks b xs v
 
 -- the heights xs become ys by one legal firing of v; or nothing changes
 abbrev pub Fired : Shape → List ℕ → List ℕ → ℕ → Part → Result Unit Refusal → Type 0
@@ -58,9 +68,7 @@ abbrev pub near_checks : Shape → List ℕ → ℕ → List Check
 near_checks b xs v =
     record { row = row.Memory; when = λ p. (p ≡ 0) × (length xs ≢ b.sites) }
     ∷ record { row = row.Limit; when = λ p. (p ≡ 0) × LightNear b xs v false }
-    ∷ record { row = row.Site; when = λ p. (p ≡ v) × (b.sites ≤ v) }
-    ∷ record { row = row.CannotFire; when = λ p. (p ≡ v) × (CanFire b (at xs) v → ⊥) }
-    ∷ []
+    ∷ site_checks b xs v
 
 -- the heights xs become ys by one legal firing of v, judged by the sites that take part; or nothing changes
 abbrev pub FiredNear : Shape → List ℕ → List ℕ → ℕ → Part → Result Unit Refusal → Type 0

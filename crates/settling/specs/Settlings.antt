@@ -1,5 +1,5 @@
 -- Settling with a budget: what it leaves of heights, and its rows.
-use Rattle.std.specs.Prelude.{◌≡◌, ℕ, ◌+◌, ◌<◌, ◌≤◌, Bool, true, false, ◌≢◌, ◌⊎◌, ◌↔◌, List, [], ◌∷◌, length, Ok, Err, Result}
+use Rattle.std.specs.Prelude.{◌≡◌, ℕ, ◌+◌, ◌<◌, ◌≤◌, true, false, ◌≢◌, ◌⊎◌, ◌↔◌, List, [], ◌∷◌, length, Ok, Err, Result}
 use Rattle.refusal.specs.declared.Row.TheVariants as row
 use Rattle.refusal.specs.declared.Part.{Part}
 use Rattle.refusal.specs.declared.Refusal.{Refusal}
@@ -75,11 +75,6 @@ SettledBy b xs ys slots bytes budget part (Err e) = Refused (settle_checks b.sit
 -- the counts cs' are cs and the firings of a settling
 abbrev pub Counted : (b : Shape) (c h : ℕ → ℕ) (budget : ℕ) (o : Outcome) → List ℕ → List ℕ → Type 0
 Counted b c h budget o cs cs' = (e : Ended b c h budget o) × (length cs' ≡ length cs) × ((v : ℕ) → v < b.sites → v < length cs → at cs' v ≡ at cs v + e.counts v)
-
--- no count is above 1,000,000,000,000, or some is
-abbrev pub Low : List ℕ → Bool → Type 0
-Low cs true = (u : ℕ) → at cs u ≤ 1000000000000
-Low cs false = (u : ℕ) × (1000000000000 < at cs u)
 
 -- as settling, with a count for each site, each at most 1,000,000,000,000
 abbrev pub count_checks : ℕ → List ℕ → List ℕ → ℕ → ℕ → ℕ → List Check

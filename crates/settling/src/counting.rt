@@ -1,7 +1,8 @@
 // Settling with a count for each site, to which its firings are added.
-ghost use Rattle.std.specs.Prelude.{◌≡◌, ℕ, List, length};
+ghost use Rattle.std.specs.Prelude.{◌≡◌, ℕ, List, length, nat_le};
+ghost use Rattle.std.specs.List.{list_all};
 ghost use Rattle.refusal.specs.Table.{InOrder, rows};
-ghost use Rattle.settling.specs.Settlings.{Low, SettledCounting, count_checks};
+ghost use Rattle.settling.specs.Settlings.{SettledCounting, count_checks};
 
 use crate::settle::{Outcome, check, settle_counted};
 use board::Board;
@@ -9,14 +10,9 @@ use refusal::{Part, Refusal, Row};
 
 // Whether no count is above 1,000,000,000,000.
 fn all_low(counts: &[u64]) -> bool
-    ensures { Low counts.now result }
+    ensures { result ≡ list_all (λ c. nat_le c 1000000000000) counts.now }
 {
-    for i in 0..counts.len() {
-        if counts[i] > 1_000_000_000_000 {
-            return false;
-        }
-    }
-    true
+    counts.iter().all(|c| *c <= 1_000_000_000_000)
 }
 
 // Settles `heights` as `settle` does, and adds each site's firings to its count.
@@ -32,21 +28,11 @@ pub fn settle_counting<B: Board>(
     ensures { SettledCounting (B.Board.shape board.now) heights.old heights.new counts.old counts.new (length waiting.old) (length marks.old) budget part result }
 {
     if counts.len() != board.count() {
-        return Err(Refusal {
-            row: Row::Memory,
-            place: 0,
-            part,
-        });
+        return Err(part.refuse(Row::Memory));
     }
-    if let Err(e) = check(board, heights, waiting.len(), marks.len(), budget, part) {
-        return Err(e);
-    }
+    check(board, heights, waiting.len(), marks.len(), budget, part)?;
     if !all_low(counts) {
-        return Err(Refusal {
-            row: Row::Limit,
-            place: 0,
-            part,
-        });
+        return Err(part.refuse(Row::Limit));
     }
     Ok(settle_counted(board, heights, counts, waiting, marks, budget))
 }

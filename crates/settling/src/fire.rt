@@ -4,7 +4,7 @@ ghost use Rattle.refusal.specs.Table.{InOrder, rows};
 ghost use Rattle.board.specs.Shape.{Shape, deg};
 ghost use Rattle.firing.specs.Firing.{CanFire};
 ghost use Rattle.firing.specs.Firing.{at};
-ghost use Rattle.settling.specs.Firings.{Enough, Weighs, LowestReady, FiresTimes, LightNear, fire_checks, Fired};
+ghost use Rattle.settling.specs.Firings.{Enough, Weighs, LowestReady, FiresTimes, LightNear, fire_checks, FiredLight, Fired};
 
 use board::{Board, degree};
 use refusal::{Part, Refusal, Row};
@@ -20,22 +20,14 @@ pub(crate) fn is_enough(links: u64, height: u64) -> bool
 pub fn can_fire<B: Board>(board: &B, heights: &[u64], v: usize) -> bool
     ensures { MatchBool result (CanFire (B.Board.shape board.now) (at heights.now) v) (CanFire (B.Board.shape board.now) (at heights.now) v → ⊥) }
 {
-    if v >= heights.len() {
-        return false;
-    }
-    is_enough(degree(board, v) as u64, heights[v])
+    v < heights.len() && is_enough(u64::from(degree(board, v)), heights[v])
 }
 
 // The lowest site that can fire.
 pub fn lowest_ready<B: Board>(board: &B, heights: &[u64]) -> Option<usize>
     ensures { LowestReady (B.Board.shape board.now) (at heights.now) result }
 {
-    for v in 0..board.count() {
-        if can_fire(board, heights, v) {
-            return Some(v);
-        }
-    }
-    None
+    (0..board.count()).find(|v| can_fire(board, heights, *v))
 }
 
 // All grains, or none where they are more than `limit`.
@@ -43,21 +35,13 @@ pub fn all_grains(heights: &[u64], limit: u64) -> Option<u64>
     ensures { Weighs heights.now limit result }
 {
     let mut sum = 0;
-    for i in 0..heights.len() {
-        if heights[i] > limit - sum {
+    for h in heights {
+        if *h > limit - sum {
             return None;
         }
-        sum += heights[i];
+        sum += *h;
     }
     Some(sum)
-}
-
-// The grains that go along these links in so many firings.
-fn sent(links: u32, times: u64) -> u64
-    requires { links * times ≤ 1000000 }
-    ensures { result ≡ links * times }
-{
-    links as u64 * times
 }
 
 // Fires `v` so often in a row; `lost` is what it gives in all.
@@ -70,12 +54,34 @@ pub(crate) fn fire_times<B: Board>(board: &B, heights: &mut [u64], v: usize, tim
     ensures { FiresTimes (B.Board.shape board.now) v times (at heights.old) (at heights.new) }
 {
     heights[v] -= lost;
+    // the walk takes `next` apart here: a form that the project lays down for firing
     let mut j = 0;
     loop {
         let Some(u) = board.next(v, j) else { break };
-        heights[u] += sent(board.links(v, u), times);
+        heights[u] += u64::from(board.links(v, u)) * times;
         j = u + 1;
     }
+}
+
+// Fires `v` once, where no site that takes part is above 1,000,000.
+pub(crate) fn fire_light<B: Board>(
+    board: &B,
+    heights: &mut [u64],
+    v: usize,
+    part: Part,
+) -> Result<(), Refusal>
+    requires sized { length heights.old ≡ (B.Board.shape board.now).sites }
+    requires low { LightNear (B.Board.shape board.now) heights.old v true }
+    ensures { FiredLight (B.Board.shape board.now) heights.old heights.new v part result }
+{
+    if v >= heights.len() {
+        return Err(part.refuse_at(Row::Site, v));
+    }
+    if !can_fire(board, heights, v) {
+        return Err(part.refuse_at(Row::CannotFire, v));
+    }
+    fire_times(board, heights, v, 1, u64::from(degree(board, v)));
+    Ok(())
 }
 
 // Fires `v` once.
@@ -83,35 +89,12 @@ pub fn fire<B: Board>(board: &B, heights: &mut [u64], v: usize, part: Part) -> R
     ensures { Fired (B.Board.shape board.now) heights.old heights.new v part result }
 {
     if heights.len() != board.count() {
-        return Err(Refusal {
-            row: Row::Memory,
-            place: 0,
-            part,
-        });
+        return Err(part.refuse(Row::Memory));
     }
-    let Some(_) = all_grains(heights, 1_000_000) else {
-        return Err(Refusal {
-            row: Row::Limit,
-            place: 0,
-            part,
-        });
-    };
-    if v >= heights.len() {
-        return Err(Refusal {
-            row: Row::Site,
-            place: v as u64,
-            part,
-        });
+    if all_grains(heights, 1_000_000).is_none() {
+        return Err(part.refuse(Row::Limit));
     }
-    if !can_fire(board, heights, v) {
-        return Err(Refusal {
-            row: Row::CannotFire,
-            place: v as u64,
-            part,
-        });
-    }
-    fire_times(board, heights, v, 1, degree(board, v) as u64);
-    Ok(())
+    fire_light(board, heights, v, part)
 }
 
 // The rows by which `fire` refuses, in the order of its checks.

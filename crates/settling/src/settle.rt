@@ -5,45 +5,21 @@ ghost use Rattle.board.specs.Shape.{sum_below};
 ghost use Rattle.firing.specs.Firing.{Still};
 ghost use Rattle.waiting.specs.WaitingLists.{waits, room};
 ghost use Rattle.firing.specs.Firing.{at};
-ghost use Rattle.settling.specs.Marks.{Queued, Covered, Waits, WaitRound, Visited};
-ghost use Rattle.settling.specs.Settlings.{Noted, Tallied, Ended, Counted, Fit, Checked, SettledBy, settle_checks};
+ghost use Rattle.settling.specs.Marks.{Queued, Covered, Visited};
+ghost use Rattle.settling.specs.Settlings.{Noted, Tallied, Counted, Fit, Checked, SettledBy, settle_checks};
 
 use crate::fire::{all_grains, can_fire, fire_times, is_enough, lowest_ready};
-use board::neighbours::Neighbours;
+use crate::waits::{wait, wait_round};
 use board::{Board, degree};
 use refusal::{Part, Refusal, Row};
 use waiting::WaitingList;
 
-// How many firings were made, and whether no site can fire after them.
+// How many firings were made, and whether no site can fire after them: each says the same whatever the other is, so no variant
+// would leave one out.
 #[derive(Clone, Copy, PartialEq, Eq, Debug)]
 pub struct Outcome {
     pub fired: u64,
     pub still: bool,
-}
-
-// Has `u` wait, unless it does.
-fn wait(list: &mut WaitingList<usize>, marks: &mut [u8], u: usize)
-    requires { u < length marks.old }
-    ensures waits { (n : ℕ) → u < n → n ≤ length marks.old → n ≤ room list.old → Queued n (waits list.old) marks.old → Waits n u marks.old (waits list.new) marks.new }
-    ensures room { room list.new ≡ room list.old }
-{
-    if marks[u] == 0 {
-        marks[u] = 1;
-        let _pushed = list.push(u);
-    }
-}
-
-// Has each site that `v` is linked to wait.
-fn wait_round<B: Board>(board: &B, list: &mut WaitingList<usize>, marks: &mut [u8], v: usize)
-    requires bytes { (B.Board.shape board.now).sites ≤ length marks.old }
-    requires room { (B.Board.shape board.now).sites ≤ room list.old }
-    requires queued { Queued (B.Board.shape board.now).sites (waits list.old) marks.old }
-    ensures round { WaitRound (B.Board.shape board.now) v marks.old (waits list.new) marks.new }
-    ensures room { room list.new ≡ room list.old }
-{
-    for u in Neighbours::of(board, v) {
-        wait(list, marks, u);
-    }
 }
 
 // Fires `v` as often as its height and `limit` allow, and says how often.
@@ -54,7 +30,7 @@ fn visit<B: Board>(board: &B, heights: &mut [u64], v: usize, limit: u64) -> u64
     requires some { 1 ≤ limit }
     ensures { Visited (B.Board.shape board.now) v limit heights.old heights.new result }
 {
-    let links = degree(board, v) as u64;
+    let links = u64::from(degree(board, v));
     if !is_enough(links, heights[v]) {
         return 0;
     }
@@ -68,10 +44,9 @@ fn note(counts: &mut [u64], v: usize, times: u64)
     requires { at counts.old v + times < 2 ^ 64 }
     ensures { Noted v times counts.old counts.new }
 {
-    if v >= counts.len() {
-        return;
+    if v < counts.len() {
+        counts[v] += times;
     }
-    counts[v] += times;
 }
 
 // Fires the waiting sites, first in, first out, until none waits or `limit` firings are made; how many were made.
@@ -102,7 +77,7 @@ fn work_off<B: Board>(
         if times > 0 {
             fired += times;
             note(counts, v, times);
-            wait_round(board, list, marks, v);
+            wait_round(board, list, marks, v, 0);
         }
     }
     fired
@@ -120,7 +95,7 @@ fn scan<B: Board>(board: &B, heights: &[u64], list: &mut WaitingList<usize>, mar
     for v in 0..board.count() {
         marks[v] = 0;
         if can_fire(board, heights, v) {
-            wait(list, marks, v);
+            wait(list, marks, v, 0);
         }
     }
 }
@@ -138,27 +113,12 @@ pub(crate) fn check<B: Board>(
 {
     let n = board.count();
     if heights.len() != n || slots < n || bytes < n {
-        return Err(Refusal {
-            row: Row::Memory,
-            place: 0,
-            part,
-        });
+        return Err(part.refuse(Row::Memory));
     }
-    if budget < 1 || budget > 1_000_000_000 {
-        return Err(Refusal {
-            row: Row::Limit,
-            place: 0,
-            part,
-        });
+    if budget < 1 || budget > 1_000_000_000 || all_grains(heights, 1_000_000).is_none() {
+        return Err(part.refuse(Row::Limit));
     }
-    match all_grains(heights, 1_000_000) {
-        Some(_) => Ok(()),
-        None => Err(Refusal {
-            row: Row::Limit,
-            place: 0,
-            part,
-        }),
-    }
+    Ok(())
 }
 
 // Settles heights that were checked, and adds each site's firings to its count.
@@ -177,31 +137,8 @@ pub(crate) fn settle_counted<B: Board>(
     let mut list = WaitingList::new(waiting);
     scan(board, heights, &mut list, marks);
     let fired = work_off(board, heights, counts, &mut list, marks, budget);
-    if fired < budget {
-        return Outcome { fired, still: true };
-    }
-    match lowest_ready(board, heights) {
-        None => Outcome { fired, still: true },
-        Some(_) => Outcome {
-            fired,
-            still: false,
-        },
-    }
-}
-
-// Settles heights that were checked.
-fn settle_fit<B: Board>(
-    board: &B,
-    heights: &mut [u64],
-    waiting: &mut [usize],
-    marks: &mut [u8],
-    budget: u64,
-) -> Outcome
-    requires { Fit (B.Board.shape board.now).sites heights.old (length waiting.old) (length marks.old) }
-    ensures { Ended (B.Board.shape board.now) (at heights.old) (at heights.new) budget result }
-{
-    let mut counts = [0u64; 0];
-    settle_counted(board, heights, &mut counts, waiting, marks, budget)
+    let still = fired < budget || lowest_ready(board, heights).is_none();
+    Outcome { fired, still }
 }
 
 // Settles `heights`: legal firings only, until no site can fire or `budget` of them are made. The waiting list and the
@@ -217,7 +154,7 @@ pub fn settle<B: Board>(
     ensures { SettledBy (B.Board.shape board.now) heights.old heights.new (length waiting.old) (length marks.old) budget part result }
 {
     check(board, heights, waiting.len(), marks.len(), budget, part)?;
-    Ok(settle_fit(board, heights, waiting, marks, budget))
+    Ok(settle_counted(board, heights, &mut [], waiting, marks, budget))
 }
 
 // The rows by which `settle` refuses, in the order of its checks.

@@ -5,14 +5,14 @@ use Rattle.board.specs.Sums.{sum_suc, sum_more}
 use Rattle.firing.specs.Firing.{at}
 use Rattle.settling.proofs.fire.all_grains.Goals as goal
 
-pub loop-i-init : goal.loop-i-init
+pub loop-h-init : goal.loop-h-init
 unfolding sum_below
-loop-i-init c = (omega arith, omega arith)
+loop-h-init c = (omega arith, omega arith)
 
-pub returns-then-heights-i : goal.returns-then-heights-i
-returns-then-heights-i c =
+pub returns-then-h-limit : goal.returns-then-h-limit
+returns-then-h-limit c =
     let xs = c.args.heights.now in
-    omega (arith, sum_suc c.loop-i.i (at xs), sum_more (c.loop-i.i + 1) (length xs) (at xs) (omega arith))
+    omega (arith, sum_suc c.loop-h.h-index (at xs), sum_more (c.loop-h.h-index + 1) (length xs) (at xs) (omega arith))
 
-pub loop-i-preserved : goal.loop-i-preserved
-loop-i-preserved c = (omega (arith, sum_suc c.loop-i.i (at c.args.heights.now)), omega arith)
+pub loop-h-preserved : goal.loop-h-preserved
+loop-h-preserved c = (omega (arith, sum_suc c.loop-h.h-index (at c.args.heights.now)), omega arith)

@@ -4,5 +4,5 @@ use Rattle.board.specs.Shape.{sum_below}
 use Rattle.firing.specs.Firing.{at}
 use Rattle.settling.proofs.fire.all_grains.Given as goal
 
-abbrev pub invariant-loop-i : goal.invariant-loop-i
-invariant-loop-i l = (l.sum ≡ sum_below l.i (at l.heights)) × (l.sum ≤ l.limit)
+abbrev pub invariant-loop-h : goal.invariant-loop-h
+invariant-loop-h l = (l.sum ≡ sum_below l.h-index (at l.heights)) × (l.sum ≤ l.limit)

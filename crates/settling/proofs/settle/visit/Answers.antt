@@ -1,5 +1,5 @@
 -- What is left to show of `visit`.
-use Rattle.std.proofs.Common.{◌≡◌, ◌*◌, ◌/◌, min, ap, subst}
+use Rattle.std.proofs.Common.{◌≡◌, ◌*◌, ◌/◌, min, ap, ◌∙◌, subst}
 use Rattle.firing.specs.Firing.{at}
 use Rattle.settling.specs.Firings.{Enough}
 use Rattle.settling.proofs.Visits.{times_fit, visited_some, visited_none}
@@ -8,14 +8,14 @@ use Rattle.settling.proofs.settle.visit.Goals as goal
 pub returns-then-not-is_enough : goal.returns-then-not-is_enough
 returns-then-not-is_enough g c =
     visited_none (g.B.Board.shape c.args.board.now) c.args.v c.args.limit c.args.heights.now
-    (subst (λ d. Enough d (at c.args.heights.now c.args.v) → ⊥) c.degree-links.ensures c.if-not-is_enough.ensures)
+    (subst (λ d. Enough d (at c.args.heights.now c.args.v) → ⊥) (c.from-links.ensures ∙ c.degree.ensures) c.if-not-is_enough.ensures)
 
 pub fire_times-requires : goal.fire_times-requires
 fire_times-requires g c = record {
   sized = c.requires.sized;
   on = c.requires.on;
-  gives = ap (λ d. d * c.min-times.result) c.degree-links.ensures;
-  has = times_fit c.degree-links.result (at c.args.heights.now c.args.v) c.min-times.result c.args.limit c.min-times.ensures;
+  gives = ap (λ d. d * c.min-times.result) (c.from-links.ensures ∙ c.degree.ensures);
+  has = times_fit c.from-links.result (at c.args.heights.now c.args.v) c.min-times.result c.args.limit c.min-times.ensures;
   low = λ u near. c.requires.low u;
 }
 
@@ -23,6 +23,6 @@ pub returns : goal.returns
 returns g c =
     let h = at c.args.heights.now c.args.v in
     visited_some (g.B.Board.shape c.args.board.now) c.args.v c.args.limit c.args.heights.now c.fire_times.new.heights c.min-times.result c.requires.some
-    (subst (λ d. Enough d h) c.degree-links.ensures c.if-not-is_enough.ensures)
-    (subst (λ d. c.min-times.result ≡ min c.args.limit (h / d)) c.degree-links.ensures c.min-times.ensures)
+    (subst (λ d. Enough d h) (c.from-links.ensures ∙ c.degree.ensures) c.if-not-is_enough.ensures)
+    (subst (λ d. c.min-times.result ≡ min c.args.limit (h / d)) (c.from-links.ensures ∙ c.degree.ensures) c.min-times.ensures)
     c.fire_times.ensures
