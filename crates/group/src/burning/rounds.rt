@@ -12,7 +12,6 @@ ghost use Rattle.group.specs.Flames.{undone, Burning, Cool, Steady, Visit, Light
 ghost use Rattle.group.specs.Answers.{Burned, burn_checks};
 
 use super::Burnt;
-use crate::refusals::refused;
 use board::{Board, degree};
 use refusal::{Part, Refusal, Row};
 use settling::Entry;
@@ -208,13 +207,13 @@ pub fn burn<B: Board>(
 {
     let n = board.count();
     if heights.len() != n || rounds.len() != n || waiting.len() < n || bytes.len() < n {
-        return Err(refused(Row::Memory, 0));
+        return Err(Part::Group.refuse(Row::Memory));
     }
     if let Some(v) = reach(board, waiting, bytes, Part::Group)? {
-        return Err(refused(Row::NoDrain, v));
+        return Err(Part::Group.refuse_at(Row::NoDrain, v));
     }
     if let Some(v) = lowest_ready(board, heights) {
-        return Err(refused(Row::NotStill, v));
+        return Err(Part::Group.refuse_at(Row::NotStill, v));
     }
     Ok(burn_through(board, heights, rounds, waiting, bytes))
 }
