@@ -38,18 +38,10 @@ fn prepare<B: Board>(board: &B, rounds: &mut [u32], bytes: &mut [u8])
     requires bytes { (B.Board.shape board.now).sites ≤ length bytes.old }
     ensures { Fresh (B.Board.shape board.now) bytes.new rounds.new }
 {
-    for v in 0..rounds.len() {
-        bytes[v] = 0;
-        rounds[v] = degree(board, v) - board.drain(v);
+    bytes.fill(0);
+    for (v, number) in rounds.iter_mut().enumerate() {
+        *number = degree(board, v) - board.drain(v);
     }
-}
-
-// The round after `last`; there are at most twice as many rounds as sites.
-fn round_after(last: u32) -> u32
-    requires { last ≤ 8192 }
-    ensures { result ≡ last + 1 }
-{
-    last + 1
 }
 
 // Holds the height of `u` against its links to what still counts as unburnt; if it is as high, it burns in the round
@@ -75,7 +67,7 @@ fn hold<B: Board>(
     ensures room { room list.new ≡ room list.old }
 {
     if heights[u] >= rounds[u] as u64 {
-        let round = round_after(last);
+        let round = last + 1;
         rounds[u] = round;
         bytes[u] = 1;
         let _pushed = list.push(Burnt { site: u, round });
@@ -163,9 +155,9 @@ fn clear_unburnt(rounds: &mut [u32], bytes: &[u8]) -> bool
     ensures all { Says result ((u : ℕ) → u < length rounds.old → 1 ≤ mark bytes.now u) }
 {
     let mut all = true;
-    for v in 0..rounds.len() {
+    for (v, number) in rounds.iter_mut().enumerate() {
         if bytes[v] == 0 {
-            rounds[v] = 0;
+            *number = 0;
             all = false;
         }
     }
