@@ -13,7 +13,8 @@ use settling::fire::lowest_ready;
 use settling::reach::reach;
 use settling::settle::settle;
 
-// Settles within the budget; where it is not enough, makes all heights 0 and refuses.
+// Settles within the budget; where it is not enough, makes all heights 0 and refuses. (What is lent stays apart: in a
+// struct, each call would have to promise of each part that it is the same memory, as long as before.)
 fn settle_within<B: Board>(
     board: &B,
     heights: &mut [u64],
@@ -49,6 +50,7 @@ fn add(a: &[u64], b: &[u64], answer: &mut [u64])
     requires low { (v : ℕ) → v < length answer.old → at a.now v + at b.now v ≤ 1000000 }
     ensures { (v : ℕ) → v < length answer.old → at answer.new v ≡ at a.now v + at b.now v }
 {
+    // By index: of what is written through `zip` the check knows no value.
     for (v, height) in answer.iter_mut().enumerate() {
         *height = a[v] + b[v];
     }

@@ -19,13 +19,13 @@ use settling::fire::lowest_ready;
 use settling::reach::reach;
 use waiting::WaitingList;
 
-// The marks of sites: numbers, since the memory that is lent for them is bytes.
+// The mark of a site that is not burnt. (Marks are numbers, since the memory that the caller lends for them is bytes.)
 const UNBURNT: u8 = 0;
 
-// Burnt, and waits.
+// The mark of one that is burnt, and waits.
 const WAITS: u8 = 1;
 
-// Burnt, and its links are taken from its neighbours.
+// The mark of one that is burnt, its links taken from its neighbours.
 const DONE: u8 = 2;
 
 // A search may wait in the same memory.
@@ -109,7 +109,7 @@ impl<'a> Fire<'a> {
     {
         let v = burnt.site;
         let mut j = 0;
-        // The walk of burning takes `next` apart, and ends where it is none.
+        // By `next` and not by an iterator: burning is written as the walk that it is.
         loop {
             let Some(u) = board.next(v, j) else { break };
             if self.marks[u] == UNBURNT {
@@ -141,6 +141,7 @@ impl<'a> Fire<'a> {
         ensures all { Says result ((u : ℕ) → u < length rounds.old → 1 ≤ mark self.now.marks.now u) }
     {
         let mut all = true;
+        // By index: of what is written through `zip` the check knows no value.
         for (v, number) in rounds.iter_mut().enumerate() {
             if self.marks[v] == UNBURNT {
                 *number = 0;
