@@ -10,7 +10,7 @@ use Rattle.firing.specs.Settling.{Same}
 use Rattle.firing.proofs.Exist.{settled_from}
 use Rattle.settling.specs.Reaching.{Astray}
 use Rattle.settling.specs.Settlings.{Fit}
-use Rattle.group.specs.Sums.{Short, Over, Unstill, IdentityOver, Bare, Left, Spent, Ready, Within, Summed, IdentityIs}
+use Rattle.group.specs.Sums.{Short, Unstill, IdentityOver, Bare, Left, Spent, Ready, Within, Summed, IdentityIs}
 use Rattle.group.proofs.Grains.{Twice, Lacks, light, over_from, same_back, first_over, second_over, none_over, identity_made}
 
 -- the row, the place and the part of a refusal by a budget

@@ -1,5 +1,5 @@
 -- What is left to show of `sum`.
-use Rattle.std.proofs.Common.{length, arith}
+use Rattle.std.proofs.Common.{arith}
 use Rattle.firing.specs.Firing.{at}
 use Rattle.group.proofs.Grains.{low_pair, fires_le}
 use Rattle.group.proofs.Rows.{fit, sum_settled}

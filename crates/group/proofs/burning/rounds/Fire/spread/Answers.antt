@@ -1,9 +1,8 @@
 -- What is left to show of `spread`.
-use Rattle.std.proofs.Common.{sym, subst, arith}
+use Rattle.std.proofs.Common.{subst, arith}
 use Rattle.waiting.specs.WaitingLists.{waits}
 use Rattle.firing.specs.Firing.{at}
-use Rattle.settling.specs.Searches.{mark}
-use Rattle.group.specs.Flames.{Steady, Visit}
+use Rattle.group.specs.Flames.{Steady}
 use Rattle.group.proofs.Fires.{marks_on}
 use Rattle.group.proofs.Visits.{was, visit_begins, visit_less}
 use Rattle.group.proofs.Ends.{ended}
