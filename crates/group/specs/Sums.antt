@@ -1,5 +1,5 @@
 -- Sums and the identity: checks and answers, by the definitions of the subject.
-use Rattle.std.specs.Prelude.{◌≡◌, ℕ, ◌+◌, ◌*◌, ◌<◌, ◌≤◌, ◌⊎◌, List, [], ◌∷◌, length, Some, None, Ok, Err, Option, Result, ◌≢◌}
+use Rattle.std.specs.Prelude.{◌≡◌, ℕ, ◌+◌, ◌*◌, ◌<◌, ◌≤◌, ◌⊎◌, List, [], ◌∷◌, ◌++◌, length, Some, None, Ok, Err, Option, Result, ◌≢◌}
 use Rattle.refusal.specs.declared.Row.{Row}
 use Rattle.refusal.specs.declared.Row.TheVariants as row
 use Rattle.refusal.specs.declared.Part.TheVariants as part
@@ -51,28 +51,6 @@ sum_checks b hs hs' answer waiting bytes budget =
     ∷ record { row = row.Budget; when = λ p. (p ≡ 0) × Over b (λ v. at hs v + at hs' v) budget }
     ∷ []
 
--- the checks of the identity: memory, the budget, sites that do not reach the drain, the settlings
-abbrev pub identity_checks : Shape → ℕ → ℕ → ℕ → ℕ → List Check
-identity_checks b answer waiting bytes budget =
-    record { row = row.Memory; when = λ p. (p ≡ 0) × Short b.sites answer waiting bytes }
-    ∷ record { row = row.Limit; when = λ p. (p ≡ 0) × Beyond 1 1000000000 budget }
-    ∷ record { row = row.NoDrain; when = λ p. Lowest b (Astray b) p }
-    ∷ record { row = row.Budget; when = λ p. (p ≡ 0) × IdentityOver b budget }
-    ∷ []
-
--- heights that are all 0
-abbrev pub Bare : ℕ → List ℕ → Type 0
-Bare n xs = (v : ℕ) → v < n → at xs v ≡ 0
-
--- after a refusal by row r: where a budget was not enough the answer heights are all 0, and else they read as before
-pub record Left (n : ℕ) (r : Row) (xs ys : List ℕ) : Type 0 where
-  pub cleared : r ≡ row.Budget → Bare n ys
-  pub same : (r ≢ row.Budget) → ys ≡ xs
-
--- a refusal by a budget
-abbrev pub Spent : Refusal → Type 0
-Spent e = e ≡ record { row = row.Budget; place = 0; part = part.Group }
-
 -- memory fits, the budget is within its limits, and all sites reach the drain
 pub record Ready (b : Shape) (answer waiting bytes budget : ℕ) : Type 0 where
   pub sized : answer ≡ b.sites
@@ -89,6 +67,24 @@ first_checks b answer waiting bytes budget =
     ∷ record { row = row.Limit; when = λ p. (p ≡ 0) × Beyond 1 1000000000 budget }
     ∷ record { row = row.NoDrain; when = λ p. Lowest b (Astray b) p }
     ∷ []
+
+-- the checks of the identity: the same, then the settlings
+abbrev pub identity_checks : Shape → ℕ → ℕ → ℕ → ℕ → List Check
+identity_checks b answer waiting bytes budget =
+    first_checks b answer waiting bytes budget ++ record { row = row.Budget; when = λ p. (p ≡ 0) × IdentityOver b budget } ∷ []
+
+-- heights that are all 0
+abbrev pub Bare : ℕ → List ℕ → Type 0
+Bare n xs = (v : ℕ) → v < n → at xs v ≡ 0
+
+-- after a refusal by row r: where a budget was not enough the answer heights are all 0, and else they read as before
+pub record Left (n : ℕ) (r : Row) (xs ys : List ℕ) : Type 0 where
+  pub cleared : r ≡ row.Budget → Bare n ys
+  pub same : (r ≢ row.Budget) → ys ≡ xs
+
+-- a refusal by a budget
+abbrev pub Spent : Refusal → Type 0
+Spent e = e ≡ record { row = row.Budget; place = 0; part = part.Group }
 
 -- none of these checks refuses, or the first that does
 abbrev pub Checked : Shape → ℕ → ℕ → ℕ → ℕ → Result Unit Refusal → Type 0
