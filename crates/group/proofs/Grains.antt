@@ -64,6 +64,14 @@ pub is_over : (b : Shape) → Sound b → (c h : ℕ → ℕ) (budget : ℕ) (o 
 is_over b ok c h budget o ended every spent =
     let f = least_exists b ok every c in (f.0, f.1, ended.beyond spent f.0 f.1.settles)
 
+-- x is 2M
+abbrev pub Twice : (b : Shape) (x : ℕ → ℕ) → Type 0
+Twice b x = (v : ℕ) → v < b.sites → x v + 2 ≡ 2 * fires_from b v
+
+-- z is what y lacks of 2M
+abbrev pub Lacks : (b : Shape) (z y : ℕ → ℕ) → Type 0
+Lacks b z y = (v : ℕ) → v < b.sites → z v + y v + 2 ≡ 2 * fires_from b v
+
 module _ (b : Shape) (ok : Sound b) (every : AllReach b) where
   -- two still heights, and what all sites fire from
   pub low_pair : (h h' : ℕ → ℕ) → Still b h → Still b h' → (v : ℕ) → v < b.sites → h v + h' v ≤ fires_from b v + fires_from b v
@@ -83,18 +91,14 @@ module _ (b : Shape) (ok : Sound b) (every : AllReach b) where
   pub most_full : Full b most
   most_full v l = omega (arith, fires_some v l)
 
-  -- xs is 2M
-  abbrev pub Twice : (ℕ → ℕ) → Type 0
-  Twice x = (v : ℕ) → v < b.sites → x v + 2 ≡ 2 * fires_from b v
-
-  pub twice_same : (x f : ℕ → ℕ) → Twice x → Full b f → Same b x (λ v. 2 * f v)
+  pub twice_same : (x f : ℕ → ℕ) → Twice b x → Full b f → Same b x (λ v. 2 * f v)
   twice_same x f twice full v l = omega (arith, twice v l, full v l)
 
   -- settling 2M is over the budget
-  pub first_over : (x : ℕ → ℕ) (budget : ℕ) → Twice x → Over b x budget → IdentityOver b budget
+  pub first_over : (x : ℕ → ℕ) (budget : ℕ) → Twice b x → Over b x budget → IdentityOver b budget
   first_over x budget twice over = inl (most, most_full, over_from b x (λ v. 2 * most v) budget (twice_same x most twice most_full) over)
 
-  module _ (x y z : ℕ → ℕ) (twice : Twice x) (settled : Settled b x y) (lack : (v : ℕ) → v < b.sites → z v + y v + 2 ≡ 2 * fires_from b v) where
+  module _ (x y z : ℕ → ℕ) (twice : Twice b x) (settled : Settled b x y) (lack : Lacks b z y) where
     pub halfway : Halfway b most y z
     halfway = record {
       full = most_full;

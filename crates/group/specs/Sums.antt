@@ -1,5 +1,5 @@
 -- Sums and the identity: checks and answers, by the definitions of the subject.
-use Rattle.std.specs.Prelude.{◌≡◌, ℕ, ◌+◌, ◌*◌, ◌<◌, Bool, true, false, ◌⊎◌, List, [], ◌∷◌, length, Some, None, Ok, Err, Option, Result, ◌≢◌}
+use Rattle.std.specs.Prelude.{◌≡◌, ℕ, ◌+◌, ◌*◌, ◌<◌, ◌≤◌, ◌⊎◌, List, [], ◌∷◌, ◌++◌, length, Some, None, Ok, Err, Option, Result, ◌≢◌}
 use Rattle.refusal.specs.declared.Row.{Row}
 use Rattle.refusal.specs.declared.Row.TheVariants as row
 use Rattle.refusal.specs.declared.Part.TheVariants as part
@@ -10,6 +10,7 @@ use Rattle.board.specs.Shape.{Shape, sum_below}
 use Rattle.firing.specs.Firing.{at, Lowest, CanFire, Still}
 use Rattle.firing.specs.Settling.{Least, Settled}
 use Rattle.firing.specs.Groups.{Sum, Full, Identity}
+use Rattle.firing.specs.Reaching.{AllReach}
 use Rattle.settling.specs.Reaching.{Astray}
 
 -- answer heights that are not n entries, or fewer waiting places or bytes than n
@@ -50,14 +51,27 @@ sum_checks b hs hs' answer waiting bytes budget =
     ∷ record { row = row.Budget; when = λ p. (p ≡ 0) × Over b (λ v. at hs v + at hs' v) budget }
     ∷ []
 
--- the checks of the identity: memory, the budget, sites that do not reach the drain, the settlings
-abbrev pub identity_checks : Shape → ℕ → ℕ → ℕ → ℕ → List Check
-identity_checks b answer waiting bytes budget =
+-- memory fits, the budget is within its limits, and all sites reach the drain
+pub record Ready (b : Shape) (answer waiting bytes budget : ℕ) : Type 0 where
+  pub sized : answer ≡ b.sites
+  pub list : b.sites ≤ waiting
+  pub marks : b.sites ≤ bytes
+  pub some : 1 ≤ budget
+  pub most : budget ≤ 1000000000
+  pub reach : AllReach b
+
+-- the checks that come before anything is written: memory, the budget, sites that do not reach the drain
+abbrev pub first_checks : Shape → ℕ → ℕ → ℕ → ℕ → List Check
+first_checks b answer waiting bytes budget =
     record { row = row.Memory; when = λ p. (p ≡ 0) × Short b.sites answer waiting bytes }
     ∷ record { row = row.Limit; when = λ p. (p ≡ 0) × Beyond 1 1000000000 budget }
     ∷ record { row = row.NoDrain; when = λ p. Lowest b (Astray b) p }
-    ∷ record { row = row.Budget; when = λ p. (p ≡ 0) × IdentityOver b budget }
     ∷ []
+
+-- the checks of the identity: the same, then the settlings
+abbrev pub identity_checks : Shape → ℕ → ℕ → ℕ → ℕ → List Check
+identity_checks b answer waiting bytes budget =
+    first_checks b answer waiting bytes budget ++ record { row = row.Budget; when = λ p. (p ≡ 0) × IdentityOver b budget } ∷ []
 
 -- heights that are all 0
 abbrev pub Bare : ℕ → List ℕ → Type 0
@@ -67,6 +81,15 @@ Bare n xs = (v : ℕ) → v < n → at xs v ≡ 0
 pub record Left (n : ℕ) (r : Row) (xs ys : List ℕ) : Type 0 where
   pub cleared : r ≡ row.Budget → Bare n ys
   pub same : (r ≢ row.Budget) → ys ≡ xs
+
+-- a refusal by a budget
+abbrev pub Spent : Refusal → Type 0
+Spent e = e ≡ record { row = row.Budget; place = 0; part = part.Group }
+
+-- none of these checks refuses, or the first that does
+abbrev pub Checked : Shape → ℕ → ℕ → ℕ → ℕ → Result Unit Refusal → Type 0
+Checked b answer waiting bytes budget (Ok _) = Ready b answer waiting bytes budget
+Checked b answer waiting bytes budget (Err e) = Refused (first_checks b answer waiting bytes budget) part.Group e
 
 -- the sum of hs and hs' stands in ys; or a refusal
 abbrev pub Summed : Shape → List ℕ → List ℕ → List ℕ → List ℕ → ℕ → ℕ → ℕ → Result Unit Refusal → Type 0
@@ -79,6 +102,6 @@ IdentityIs b xs ys waiting bytes budget (Ok _) = Passed (identity_checks b (leng
 IdentityIs b xs ys waiting bytes budget (Err e) = Refused (identity_checks b (length xs) waiting bytes budget) part.Group e × Left b.sites e.row xs ys
 
 -- settled within the budget; or the budget is not enough, and the heights are all 0
-abbrev pub Within : Shape → ℕ → List ℕ → List ℕ → Bool → Type 0
-Within b budget xs ys true = Settled b (at xs) (at ys) × (Over b (at xs) budget → ⊥)
-Within b budget xs ys false = Over b (at xs) budget × Bare b.sites ys
+abbrev pub Within : Shape → ℕ → List ℕ → List ℕ → Result Unit Refusal → Type 0
+Within b budget xs ys (Ok _) = Settled b (at xs) (at ys) × (Over b (at xs) budget → ⊥)
+Within b budget xs ys (Err e) = Over b (at xs) budget × Bare b.sites ys × Spent e

@@ -2,5 +2,4 @@
 #![tactic(auto)]
 
 pub mod burning;
-mod refusals;
 pub mod sums;

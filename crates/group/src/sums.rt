@@ -5,56 +5,42 @@ ghost use Rattle.board.specs.Shape.{Shape};
 ghost use Rattle.firing.specs.Firing.{at, fires_from};
 ghost use Rattle.firing.specs.Reaching.{AllReach};
 ghost use Rattle.settling.specs.Settlings.{Fit};
-ghost use Rattle.group.specs.Sums.{Bare, Within, LowestUnstill, Summed, IdentityIs, sum_checks, identity_checks};
+ghost use Rattle.group.specs.Sums.{Checked, Within, LowestUnstill, Summed, IdentityIs, sum_checks, identity_checks};
 
-use crate::refusals::refused;
 use board::{Board, degree};
 use refusal::{Part, Refusal, Row};
 use settling::fire::lowest_ready;
 use settling::reach::reach;
 use settling::settle::settle;
 
-// Makes all heights 0.
-fn clear(heights: &mut [u64])
-    ensures { Bare (length heights.old) heights.new }
-{
-    for v in 0..heights.len() {
-        heights[v] = 0;
-    }
-}
-
-// Settles within the budget and says so; where the budget is not enough, makes all heights 0.
+// Settles within the budget; where it is not enough, makes all heights 0 and refuses. (What is lent stays apart: in a
+// struct, each call would have to promise of each part that it is the same memory, as long as before.)
 fn settle_within<B: Board>(
     board: &B,
     heights: &mut [u64],
     waiting: &mut [usize],
     bytes: &mut [u8],
     budget: u64,
-) -> bool
+) -> Result<(), Refusal>
     requires fit { Fit (B.Board.shape board.now).sites heights.old (length waiting.old) (length bytes.old) }
     requires some { 1 ≤ budget }
     requires most { budget ≤ 1000000000 }
     requires reach { AllReach (B.Board.shape board.now) }
     ensures { Within (B.Board.shape board.now) budget heights.old heights.new result }
 {
-    let Ok(outcome) = settle(board, heights, waiting, bytes, budget, Part::Group) else {
-        return false;
-    };
+    let outcome = settle(board, heights, waiting, bytes, budget, Part::Group)?;
     if outcome.still {
-        return true;
+        return Ok(());
     }
-    clear(heights);
-    false
+    heights.fill(0);
+    Err(Part::Group.refuse(Row::Budget))
 }
 
 // The lowest site of `a` that can fire, or where `a` is still the lowest of `b`, or none: both are still.
 fn lowest_unstill<B: Board>(board: &B, a: &[u64], b: &[u64]) -> Option<usize>
     ensures { LowestUnstill (B.Board.shape board.now) (at a.now) (at b.now) result }
 {
-    match lowest_ready(board, a) {
-        Some(v) => Some(v),
-        None => lowest_ready(board, b),
-    }
+    lowest_ready(board, a).or_else(|| lowest_ready(board, b))
 }
 
 // Writes the heights of `a` and `b`, added, into `answer`.
@@ -64,8 +50,9 @@ fn add(a: &[u64], b: &[u64], answer: &mut [u64])
     requires low { (v : ℕ) → v < length answer.old → at a.now v + at b.now v ≤ 1000000 }
     ensures { (v : ℕ) → v < length answer.old → at answer.new v ≡ at a.now v + at b.now v }
 {
-    for v in 0..answer.len() {
-        answer[v] = a[v] + b[v];
+    // By index: of what is written through `zip` the check knows no value.
+    for (v, height) in answer.iter_mut().enumerate() {
+        *height = a[v] + b[v];
     }
 }
 
@@ -84,8 +71,8 @@ fn fill<B: Board>(board: &B, answer: &mut [u64])
     requires reach { AllReach (B.Board.shape board.now) }
     ensures { (v : ℕ) → v < (B.Board.shape board.now).sites → at answer.new v + 2 ≡ 2 * fires_from (B.Board.shape board.now) v }
 {
-    for v in 0..answer.len() {
-        answer[v] = twice_full(board, v);
+    for (v, height) in answer.iter_mut().enumerate() {
+        *height = twice_full(board, v);
     }
 }
 
@@ -96,8 +83,31 @@ fn lack<B: Board>(board: &B, answer: &mut [u64])
     requires low { (v : ℕ) → v < (B.Board.shape board.now).sites → at answer.old v < fires_from (B.Board.shape board.now) v }
     ensures { (v : ℕ) → v < (B.Board.shape board.now).sites → at answer.new v + at answer.old v + 2 ≡ 2 * fires_from (B.Board.shape board.now) v }
 {
-    for v in 0..answer.len() {
-        answer[v] = twice_full(board, v) - answer[v];
+    for (v, height) in answer.iter_mut().enumerate() {
+        *height = twice_full(board, v) - *height;
+    }
+}
+
+// What both calls look at before they write: their memory, the budget, and whether all sites reach the drain.
+fn check<B: Board>(
+    board: &B,
+    answer: &[u64],
+    waiting: &mut [usize],
+    bytes: &mut [u8],
+    budget: u64,
+) -> Result<(), Refusal>
+    ensures { Checked (B.Board.shape board.now) (length answer.now) (length waiting.old) (length bytes.old) budget result }
+{
+    let n = board.count();
+    if answer.len() != n || waiting.len() < n || bytes.len() < n {
+        return Err(Part::Group.refuse(Row::Memory));
+    }
+    if budget < 1 || budget > 1_000_000_000 {
+        return Err(Part::Group.refuse(Row::Limit));
+    }
+    match reach(board, waiting, bytes, Part::Group)? {
+        Some(v) => Err(Part::Group.refuse_at(Row::NoDrain, v)),
+        None => Ok(()),
     }
 }
 
@@ -113,24 +123,15 @@ pub fn sum<B: Board>(
 ) -> Result<(), Refusal>
     ensures { Summed (B.Board.shape board.now) a.now b.now answer.old answer.new (length waiting.old) (length bytes.old) budget result }
 {
-    let n = board.count();
-    if a.len() != n || b.len() != n || answer.len() != n || waiting.len() < n || bytes.len() < n {
-        return Err(refused(Row::Memory, 0));
+    if a.len() != board.count() || b.len() != board.count() {
+        return Err(Part::Group.refuse(Row::Memory));
     }
-    if budget < 1 || budget > 1_000_000_000 {
-        return Err(refused(Row::Limit, 0));
-    }
-    if let Some(v) = reach(board, waiting, bytes, Part::Group)? {
-        return Err(refused(Row::NoDrain, v));
-    }
+    check(board, answer, waiting, bytes, budget)?;
     if let Some(v) = lowest_unstill(board, a, b) {
-        return Err(refused(Row::NotStill, v));
+        return Err(Part::Group.refuse_at(Row::NotStill, v));
     }
     add(a, b, answer);
-    if !settle_within(board, answer, waiting, bytes, budget) {
-        return Err(refused(Row::Budget, 0));
-    }
-    Ok(())
+    settle_within(board, answer, waiting, bytes, budget)
 }
 
 // The identity, settle(2M − settle(2M)), into `answer`. Waiting list and bytes may read anything afterwards.
@@ -143,25 +144,11 @@ pub fn identity<B: Board>(
 ) -> Result<(), Refusal>
     ensures { IdentityIs (B.Board.shape board.now) answer.old answer.new (length waiting.old) (length bytes.old) budget result }
 {
-    let n = board.count();
-    if answer.len() != n || waiting.len() < n || bytes.len() < n {
-        return Err(refused(Row::Memory, 0));
-    }
-    if budget < 1 || budget > 1_000_000_000 {
-        return Err(refused(Row::Limit, 0));
-    }
-    if let Some(v) = reach(board, waiting, bytes, Part::Group)? {
-        return Err(refused(Row::NoDrain, v));
-    }
+    check(board, answer, waiting, bytes, budget)?;
     fill(board, answer);
-    if !settle_within(board, answer, waiting, bytes, budget) {
-        return Err(refused(Row::Budget, 0));
-    }
+    settle_within(board, answer, waiting, bytes, budget)?;
     lack(board, answer);
-    if !settle_within(board, answer, waiting, bytes, budget) {
-        return Err(refused(Row::Budget, 0));
-    }
-    Ok(())
+    settle_within(board, answer, waiting, bytes, budget)
 }
 
 // The rows by which a sum refuses, in their order.

@@ -12,13 +12,21 @@ ghost use Rattle.group.specs.Flames.{undone, Burning, Cool, Steady, Visit, Light
 ghost use Rattle.group.specs.Answers.{Burned, burn_checks};
 
 use super::Burnt;
-use crate::refusals::refused;
 use board::{Board, degree};
 use refusal::{Part, Refusal, Row};
 use settling::Entry;
 use settling::fire::lowest_ready;
 use settling::reach::reach;
 use waiting::WaitingList;
+
+// The mark of a site that is not burnt. (Marks are numbers, since the memory that the caller lends for them is bytes.)
+const UNBURNT: u8 = 0;
+
+// The mark of one that is burnt, and waits.
+const WAITS: u8 = 1;
+
+// The mark of one that is burnt, its links taken from its neighbours.
+const DONE: u8 = 2;
 
 // A search may wait in the same memory.
 impl Entry for Burnt {
@@ -39,138 +47,109 @@ fn prepare<B: Board>(board: &B, rounds: &mut [u32], bytes: &mut [u8])
     requires bytes { (B.Board.shape board.now).sites ≤ length bytes.old }
     ensures { Fresh (B.Board.shape board.now) bytes.new rounds.new }
 {
-    for v in 0..rounds.len() {
-        bytes[v] = 0;
-        rounds[v] = degree(board, v) - board.drain(v);
+    bytes.fill(UNBURNT);
+    for (v, number) in rounds.iter_mut().enumerate() {
+        *number = degree(board, v) - board.drain(v);
     }
 }
 
-// The round after `last`; there are at most twice as many rounds as sites.
-fn round_after(last: u32) -> u32
-    requires { last ≤ 8192 }
-    ensures { result ≡ last + 1 }
-{
-    last + 1
+// What burns: the heights, the sites that wait, and a mark for each site, all over lent memory.
+#[derive(Drop)]
+struct Fire<'a> {
+    heights: &'a [u64],
+    list: WaitingList<'a, Burnt>,
+    marks: &'a mut [u8],
+    ghost room_fits: { length heights.now ≤ room list },
+    ghost marks_fit: { length heights.now ≤ length marks.now },
 }
 
-// Holds the height of `u` against its links to what still counts as unburnt; if it is as high, it burns in the round
-// after `last`.
-fn hold<B: Board>(
-    board: &B,
-    heights: &[u64],
-    rounds: &mut [u32],
-    list: &mut WaitingList<Burnt>,
-    bytes: &mut [u8],
-    u: usize,
-    last: u32,
-)
-    requires heights { length heights.now ≡ (B.Board.shape board.now).sites }
-    requires numbers { length rounds.old ≡ (B.Board.shape board.now).sites }
-    requires bytes { (B.Board.shape board.now).sites ≤ length bytes.old }
-    requires room { (B.Board.shape board.now).sites ≤ room list.old }
-    requires on { u < (B.Board.shape board.now).sites }
-    requires burning { Burning (B.Board.shape board.now) (at heights.now) last (waits list.old) bytes.old rounds.old }
-    requires unburnt { mark bytes.old u ≡ 0 }
-    requires count { at rounds.old u ≡ links_into (B.Board.shape board.now) (undone bytes.old) u }
-    ensures held { Held (B.Board.shape board.now) (at heights.now) last u bytes.old rounds.old (waits list.new) bytes.new rounds.new }
-    ensures room { room list.new ≡ room list.old }
-{
-    if heights[u] >= rounds[u] as u64 {
-        let round = round_after(last);
-        rounds[u] = round;
-        bytes[u] = 1;
-        let _pushed = list.push(Burnt { site: u, round });
-    }
-}
-
-// The first round.
-fn light<B: Board>(
-    board: &B,
-    heights: &[u64],
-    rounds: &mut [u32],
-    list: &mut WaitingList<Burnt>,
-    bytes: &mut [u8],
-)
-    requires heights { length heights.now ≡ (B.Board.shape board.now).sites }
-    requires numbers { length rounds.old ≡ (B.Board.shape board.now).sites }
-    requires bytes { (B.Board.shape board.now).sites ≤ length bytes.old }
-    requires room { (B.Board.shape board.now).sites ≤ room list.old }
-    requires fresh { Fresh (B.Board.shape board.now) bytes.old rounds.old }
-    requires empty { waits list.old ≡ [] }
-    ensures steady { Steady (B.Board.shape board.now) (at heights.now) 0 (waits list.new) bytes.new rounds.new }
-    ensures room { room list.new ≡ room list.old }
-{
-    for u in 0..heights.len() {
-        hold(board, heights, rounds, list, bytes, u, 0);
-    }
-}
-
-// Takes the links of a burnt site from the numbers of its unburnt neighbours, and holds each against its height.
-fn visit<B: Board>(
-    board: &B,
-    heights: &[u64],
-    rounds: &mut [u32],
-    list: &mut WaitingList<Burnt>,
-    bytes: &mut [u8],
-    burnt: Burnt,
-)
-    requires heights { length heights.now ≡ (B.Board.shape board.now).sites }
-    requires numbers { length rounds.old ≡ (B.Board.shape board.now).sites }
-    requires bytes { (B.Board.shape board.now).sites ≤ length bytes.old }
-    requires room { (B.Board.shape board.now).sites ≤ room list.old }
-    requires visit { Visit (B.Board.shape board.now) (at heights.now) burnt.round burnt.site 0 (waits list.old) bytes.old rounds.old }
-    ensures steady { Steady (B.Board.shape board.now) (at heights.now) burnt.round (waits list.new) bytes.new rounds.new }
-    ensures up { Up bytes.old bytes.new }
-    ensures room { room list.new ≡ room list.old }
-{
-    let v = burnt.site;
-    let mut j = 0;
-    loop {
-        let Some(u) = board.next(v, j) else { break };
-        if bytes[u] == 0 {
-            rounds[u] -= board.links(v, u);
-            hold(board, heights, rounds, list, bytes, u, burnt.round);
-        }
-        j = u + 1;
-    }
-}
-
-// Visits what burns, until nothing waits.
-fn spread<B: Board>(
-    board: &B,
-    heights: &[u64],
-    rounds: &mut [u32],
-    list: &mut WaitingList<Burnt>,
-    bytes: &mut [u8],
-)
-    requires heights { length heights.now ≡ (B.Board.shape board.now).sites }
-    requires numbers { length rounds.old ≡ (B.Board.shape board.now).sites }
-    requires bytes { (B.Board.shape board.now).sites ≤ length bytes.old }
-    requires room { (B.Board.shape board.now).sites ≤ room list.old }
-    requires steady { Steady (B.Board.shape board.now) (at heights.now) 0 (waits list.old) bytes.old rounds.old }
-    ensures { Ended (B.Board.shape board.now) (at heights.now) bytes.new rounds.new }
-{
-    loop {
-        let Some(burnt) = list.pop() else { break };
-        bytes[burnt.site] = 2;
-        visit(board, heights, rounds, list, bytes, burnt);
-    }
-}
-
-// Makes the numbers of unburnt sites 0; whether there is none.
-fn clear_unburnt(rounds: &mut [u32], bytes: &[u8]) -> bool
-    requires { length rounds.old ≤ length bytes.now }
-    ensures cleared { Cleared (length rounds.old) bytes.now rounds.old rounds.new }
-    ensures all { Says result ((u : ℕ) → u < length rounds.old → 1 ≤ mark bytes.now u) }
-{
-    let mut all = true;
-    for v in 0..rounds.len() {
-        if bytes[v] == 0 {
-            rounds[v] = 0;
-            all = false;
+impl<'a> Fire<'a> {
+    // Holds the height of `u` against its links to what still counts as unburnt; if it is as high, it burns in the
+    // round after `last`.
+    fn hold<B: Board>(&mut self, board: &B, rounds: &mut [u32], u: usize, last: u32)
+        requires sized { length self.old.heights.now ≡ (B.Board.shape board.now).sites }
+        requires numbers { length rounds.old ≡ (B.Board.shape board.now).sites }
+        requires on { u < (B.Board.shape board.now).sites }
+        requires burning { Burning (B.Board.shape board.now) (at self.old.heights.now) last (waits self.old.list) self.old.marks.now rounds.old }
+        requires unburnt { mark self.old.marks.now u ≡ 0 }
+        requires count { at rounds.old u ≡ links_into (B.Board.shape board.now) (undone self.old.marks.now) u }
+        ensures held { Held (B.Board.shape board.now) (at self.old.heights.now) last u self.old.marks.now rounds.old (waits self.new.list) self.new.marks.now rounds.new }
+        ensures same { self.new.heights.now ≡ self.old.heights.now }
+    {
+        if self.heights[u] >= rounds[u] as u64 {
+            let round = last + 1;
+            rounds[u] = round;
+            self.marks[u] = WAITS;
+            let _pushed = self.list.push(Burnt { site: u, round });
         }
     }
-    all
+
+    // The first round.
+    fn light<B: Board>(&mut self, board: &B, rounds: &mut [u32])
+        requires sized { length self.old.heights.now ≡ (B.Board.shape board.now).sites }
+        requires numbers { length rounds.old ≡ (B.Board.shape board.now).sites }
+        requires fresh { Fresh (B.Board.shape board.now) self.old.marks.now rounds.old }
+        requires empty { waits self.old.list ≡ [] }
+        ensures steady { Steady (B.Board.shape board.now) (at self.old.heights.now) 0 (waits self.new.list) self.new.marks.now rounds.new }
+        ensures same { self.new.heights.now ≡ self.old.heights.now }
+    {
+        for u in 0..self.heights.len() {
+            self.hold(board, rounds, u, 0);
+        }
+    }
+
+    // Takes the links of a burnt site from the numbers of its unburnt neighbours, and holds each against its height.
+    fn visit<B: Board>(&mut self, board: &B, rounds: &mut [u32], burnt: Burnt)
+        requires sized { length self.old.heights.now ≡ (B.Board.shape board.now).sites }
+        requires numbers { length rounds.old ≡ (B.Board.shape board.now).sites }
+        requires visit { Visit (B.Board.shape board.now) (at self.old.heights.now) burnt.round burnt.site 0 (waits self.old.list) self.old.marks.now rounds.old }
+        ensures steady { Steady (B.Board.shape board.now) (at self.old.heights.now) burnt.round (waits self.new.list) self.new.marks.now rounds.new }
+        ensures up { Up self.old.marks.now self.new.marks.now }
+        ensures same { self.new.heights.now ≡ self.old.heights.now }
+    {
+        let v = burnt.site;
+        let mut j = 0;
+        // By `next` and not by an iterator: burning is written as the walk that it is.
+        loop {
+            let Some(u) = board.next(v, j) else { break };
+            if self.marks[u] == UNBURNT {
+                rounds[u] -= board.links(v, u);
+                self.hold(board, rounds, u, burnt.round);
+            }
+            j = u + 1;
+        }
+    }
+
+    // Visits what burns, until nothing waits.
+    fn spread<B: Board>(&mut self, board: &B, rounds: &mut [u32])
+        requires sized { length self.old.heights.now ≡ (B.Board.shape board.now).sites }
+        requires numbers { length rounds.old ≡ (B.Board.shape board.now).sites }
+        requires steady { Steady (B.Board.shape board.now) (at self.old.heights.now) 0 (waits self.old.list) self.old.marks.now rounds.old }
+        ensures ended { Ended (B.Board.shape board.now) (at self.old.heights.now) self.new.marks.now rounds.new }
+        ensures same { self.new.heights.now ≡ self.old.heights.now }
+    {
+        while let Some(burnt) = self.list.pop() {
+            self.marks[burnt.site] = DONE;
+            self.visit(board, rounds, burnt);
+        }
+    }
+
+    // Makes the numbers of unburnt sites 0; whether there is none.
+    fn clear_unburnt(&self, rounds: &mut [u32]) -> bool
+        requires { length rounds.old ≡ length self.now.heights.now }
+        ensures cleared { Cleared (length rounds.old) self.now.marks.now rounds.old rounds.new }
+        ensures all { Says result ((u : ℕ) → u < length rounds.old → 1 ≤ mark self.now.marks.now u) }
+    {
+        let mut all = true;
+        // By index: of what is written through `zip` the check knows no value.
+        for (v, number) in rounds.iter_mut().enumerate() {
+            if self.marks[v] == UNBURNT {
+                *number = 0;
+                all = false;
+            }
+        }
+        all
+    }
 }
 
 // Writes each site's round, or 0, into `rounds`, and answers whether all burn.
@@ -189,10 +168,14 @@ fn burn_through<B: Board>(
     ensures all { Says result (AllBurn (B.Board.shape board.now) (at heights.now)) }
 {
     prepare(board, rounds, bytes);
-    let mut list = WaitingList::new(waiting);
-    light(board, heights, rounds, &mut list, bytes);
-    spread(board, heights, rounds, &mut list, bytes);
-    clear_unburnt(rounds, bytes)
+    let mut fire = Fire {
+        heights,
+        list: WaitingList::new(waiting),
+        marks: bytes,
+    };
+    fire.light(board, rounds);
+    fire.spread(board, rounds);
+    fire.clear_unburnt(rounds)
 }
 
 // Burning: writes each site's round, or 0, into `rounds`, and answers whether the heights are recurrent: whether all
@@ -208,13 +191,13 @@ pub fn burn<B: Board>(
 {
     let n = board.count();
     if heights.len() != n || rounds.len() != n || waiting.len() < n || bytes.len() < n {
-        return Err(refused(Row::Memory, 0));
+        return Err(Part::Group.refuse(Row::Memory));
     }
     if let Some(v) = reach(board, waiting, bytes, Part::Group)? {
-        return Err(refused(Row::NoDrain, v));
+        return Err(Part::Group.refuse_at(Row::NoDrain, v));
     }
     if let Some(v) = lowest_ready(board, heights) {
-        return Err(refused(Row::NotStill, v));
+        return Err(Part::Group.refuse_at(Row::NotStill, v));
     }
     Ok(burn_through(board, heights, rounds, waiting, bytes))
 }

@@ -4,10 +4,10 @@ use Rattle.settling.specs.Searches.{mark}
 use Rattle.settling.specs.Reaching.{Says}
 use Rattle.firing.specs.Firing.{at}
 use Rattle.group.specs.Flames.{Cleared}
-use Rattle.group.proofs.burning.rounds.clear_unburnt.Given as goal
+use Rattle.group.proofs.burning.rounds.Fire.clear_unburnt.Given as goal
 
 abbrev pub invariant-loop-v : goal.invariant-loop-v
 invariant-loop-v l =
-    Cleared l.v l.bytes l.initial.rounds l.rounds
+    Cleared l.v l.self.marks.now l.initial.rounds l.rounds
     × ((u : ℕ) → l.v ≤ u → at l.rounds u ≡ at l.initial.rounds u)
-    × Says l.all ((u : ℕ) → u < l.v → 1 ≤ mark l.bytes u)
+    × Says l.all ((u : ℕ) → u < l.v → 1 ≤ mark l.self.marks.now u)
