@@ -1,5 +1,5 @@
 -- What one look does to the set, and what is left at the end.
-use Rattle.std.proofs.Common.{◌≡◌, ℕ, ◌+◌, ◌*◌, ◌<◌, ◌≤◌, Bool, true, false, cond, ltb, ◌⊎◌, List, [], ◌∷◌, length, set, Some, None, MatchBool, Option, sym, refl, ap, ◌∙◌, subst, inl, inr, mul-le-mul_right, arith, length-set}
+use Rattle.std.proofs.Common.{◌≡◌, ℕ, ◌+◌, ◌*◌, ◌<◌, ◌≤◌, Bool, true, false, cond, ltb, ◌⊎◌, List, [], ◌∷◌, length, set, Some, None, MatchBool, Option, nat_lt, sym, refl, ap, ◌∙◌, subst, inl, inr, mul-le-mul_right, arith, length-set}
 use Rattle.std.proofs.lemmas.Bool.{cases_lt, cases_eq, cond-true, cond-false, lt-ltb, le-ltb, ltb-true}
 use Rattle.board.specs.Shape.{Shape, Sound, Least, sum_below}
 use Rattle.board.specs.Sums.{sum_suc, sum_same, sum_skip, sum_more}
@@ -28,9 +28,18 @@ marked_alike fs fs' u to from = elim (cases_lt 0 (mark fs u)) [
   | inr l ↦ marked_not fs u (omega arith) ∙ sym (marked_not fs' u (elim (cases_lt 0 (mark fs' u)) [ inl l' ↦ absurd (omega (arith, from l')) | inr l' ↦ omega arith ]))
 ]
 
--- a walk that sums the links into the set
+-- the links of v into the set, to the sites below j
+pub record IntoBelow (b : Shape) (fs : List ℕ) (v j sum : ℕ) : Type 0 where
+  pub on : j ≤ b.sites
+  pub is : sum ≡ sum_below j (λ u. cond (marked fs u) (b.m v u) 0)
+
+pub into_none : (b : Shape) (fs : List ℕ) (v : ℕ) → IntoBelow b fs v 0 0
+unfolding sum_below
+into_none b fs v = record { on = omega arith; is = omega arith }
+
+-- a walk that sums them
 module _ {b : Shape} (ok : Sound b) (fs : List ℕ) (v : ℕ) where
-  abbrev pub into : ℕ → ℕ
+  abbrev into : ℕ → ℕ
   into u = cond (marked fs u) (b.m v u) 0
 
   none_into : (u : ℕ) → b.m v u ≡ 0 → into u ≡ 0
@@ -39,17 +48,31 @@ module _ {b : Shape} (ok : Sound b) (fs : List ℕ) (v : ℕ) where
     | inr l ↦ cond-false (marked fs u) (b.m v u) 0 (marked_not fs u (omega arith))
   ]
 
-  pub into_more : (j u : ℕ) → Least (b.m v) j u → sum_below (u + 1) into ≡ sum_below j into + into u
-  into_more j u h = omega (arith, sum_suc u into, sum_skip j u into h.from (λ k f l. none_into k (h.before k f l)))
+  pub into_more : (j u sum : ℕ) → IntoBelow b fs v j sum → Least (b.m v) j u → IntoBelow b fs v (u + 1) (sum + cond (marked fs u) (b.m v u) 0)
+  into_more j u sum i h = record {
+    on = omega (arith, linked_on ok v u h.linked);
+    is = omega (arith, i.is, sum_suc u into, sum_skip j u into h.from (λ k f l. none_into k (h.before k f l)));
+  }
 
-  pub into_all : (j : ℕ) → j ≤ b.sites → ((k : ℕ) → j ≤ k → b.m v k ≡ 0) → sum_below j into ≡ links_into b (marked fs) v
-  into_all j l none = sym (sum_skip j b.sites into l (λ k f l. none_into k (none k f)))
+  -- a site of the set
+  pub into_in : (j u sum : ℕ) → IntoBelow b fs v j sum → Least (b.m v) j u → 0 < mark fs u → IntoBelow b fs v (u + 1) (sum + b.m v u)
+  into_in j u sum i h l = subst (λ m. IntoBelow b fs v (u + 1) (sum + m)) (cond-true (marked fs u) (b.m v u) 0 (marked_if fs u l)) (into_more j u sum i h)
 
-  pub into_fits : (j u : ℕ) → Least (b.m v) j u → sum_below j into + into u ≤ 500000
-  into_fits j u h =
+  -- a site outside
+  pub into_out : (j u sum : ℕ) → IntoBelow b fs v j sum → Least (b.m v) j u → mark fs u ≤ 0 → IntoBelow b fs v (u + 1) sum
+  into_out j u sum i h l = record {
+    on = (into_more j u sum i h).on;
+    is = omega (arith, (into_more j u sum i h).is, cond-false (marked fs u) (b.m v u) 0 (marked_not fs u (omega arith)));
+  }
+
+  pub into_all : (j sum : ℕ) → IntoBelow b fs v j sum → ((k : ℕ) → j ≤ k → b.m v k ≡ 0) → sum ≡ links_into b (marked fs) v
+  into_all j sum i none = i.is ∙ sym (sum_skip j b.sites into i.on (λ k f l. none_into k (none k f)))
+
+  pub into_fits : (j u sum : ℕ) → IntoBelow b fs v j sum → Least (b.m v) j u → 0 < mark fs u → sum + b.m v u ≤ 500000
+  into_fits j u sum i h l =
       omega (
         arith,
-        into_more j u h,
+        (into_in j u sum i h l).is,
         sum_more (u + 1) b.sites into (omega (arith, linked_on ok v u h.linked)),
         into_most b (marked fs) v,
         deg_is b v,
@@ -57,9 +80,11 @@ module _ {b : Shape} (ok : Sound b) (fs : List ℕ) (v : ℕ) where
       )
 
 -- the comparison of numbers is that of the definitions
-pub compared : {b : Shape} → Sound b → (h : ℕ → ℕ) (S : ℕ → Bool) (v k : ℕ) (t : Bool) → k ≡ links_into b S v → MatchBool t (h v < k) (k ≤ h v) → MatchBool t (Lower b h S v) (Lower b h S v → ⊥)
-compared {b} ok h S v k true e l = (plain_heights b ok h S v).0.1 (omega arith)
-compared {b} ok h S v k false e l = λ p. omega (arith, (plain_heights b ok h S v).0.0 p)
+pub compared : {b : Shape} → Sound b → (h : ℕ → ℕ) (S : ℕ → Bool) (v k : ℕ) → k ≡ links_into b S v → MatchBool (nat_lt (h v) k) (Lower b h S v) (Lower b h S v → ⊥)
+compared {b} ok h S v k e = elim (cases_lt (h v) k) [
+  | inl l ↦ rw (lt-ltb (h v) k l) ((plain_heights b ok h S v).0.1 (omega arith))
+  | inr l ↦ rw (le-ltb (h v) k l) (λ p. omega (arith, (plain_heights b ok h S v).0.0 p))
+]
 
 module _ (b : Shape) (v : ℕ) (es fs : List ℕ) (long : b.sites ≤ length fs) (q : Awaits b.sites (v ∷ es) fs) where
   was : (v < b.sites) × (mark fs v ≡ 1)

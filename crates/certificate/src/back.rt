@@ -6,15 +6,10 @@ ghost use Rattle.firing.specs.Firing.{at};
 ghost use Rattle.firing.specs.TakingBack.{links_into, Lower, Largest};
 ghost use Rattle.certificate.specs.Sets.{marked, Awaits, Narrowing, Narrows, looks, Woken, WokenRound, Entered, LowestMarked, LowestBack};
 
+use crate::limits::Certificate;
 use board::Board;
+use board::neighbours::Neighbours;
 use waiting::WaitingList;
-
-// What links to a site of this mark add to the links into the set.
-fn counted(byte: u8, links: u32) -> u32
-    ensures { result ≡ (if nat_lt 0 byte then links else 0) }
-{
-    if byte > 0 { links } else { 0 }
-}
 
 // The links of `v` into the set.
 fn links_into<B: Board>(board: &B, bytes: &[u8], v: usize) -> u32
@@ -22,20 +17,12 @@ fn links_into<B: Board>(board: &B, bytes: &[u8], v: usize) -> u32
     ensures { result ≡ links_into (B.Board.shape board.now) (marked bytes.now) v }
 {
     let mut sum = 0;
-    let mut j = 0;
-    loop {
-        let Some(u) = board.next(v, j) else { break };
-        sum += counted(bytes[u], board.links(v, u));
-        j = u + 1;
+    for u in Neighbours::of(board, v) {
+        if bytes[u] > 0 {
+            sum += board.links(v, u);
+        }
     }
     sum
-}
-
-// Whether a site of this height is lower than so many links into a set.
-fn is_below(height: u64, links: u64) -> bool
-    ensures { MatchBool result (height < links) (links ≤ height) }
-{
-    height < links
 }
 
 // Whether the end at `v` is lower than the links of `v` into the set.
@@ -44,7 +31,7 @@ fn is_lower<B: Board>(board: &B, end: &[u64], bytes: &[u8], v: usize) -> bool
     requires bytes { (B.Board.shape board.now).sites ≤ length bytes.now }
     ensures { MatchBool result (Lower (B.Board.shape board.now) (at end.now) (marked bytes.now) v) (Lower (B.Board.shape board.now) (at end.now) (marked bytes.now) v → ⊥) }
 {
-    is_below(end[v], links_into(board, bytes, v) as u64)
+    end[v] < u64::from(links_into(board, bytes, v))
 }
 
 // Has `u` wait again, if it has been looked at.
@@ -67,11 +54,8 @@ fn wake_round<B: Board>(board: &B, list: &mut WaitingList<usize>, bytes: &mut [u
     ensures round { WokenRound (B.Board.shape board.now) v bytes.old (waits list.new) bytes.new }
     ensures room { room list.new ≡ room list.old }
 {
-    let mut j = 0;
-    loop {
-        let Some(u) = board.next(v, j) else { break };
+    for u in Neighbours::of(board, v) {
         wake(list, bytes, u);
-        j = u + 1;
     }
 }
 
@@ -134,30 +118,19 @@ fn lowest_marked(bytes: &[u8], n: usize) -> Option<usize>
     requires { n ≤ length bytes.now }
     ensures { LowestMarked n bytes.now result }
 {
-    for v in 0..n {
-        if bytes[v] > 0 {
-            return Some(v);
-        }
-    }
-    None
+    bytes[..n].iter().position(|byte| *byte > 0)
 }
 
-// The lowest site of the largest set that can be taken back, or none where only the empty set can.
-pub(crate) fn lowest_back<B: Board>(
-    board: &B,
-    counts: &[u64],
-    end: &[u64],
-    waiting: &mut [usize],
-    bytes: &mut [u8],
-) -> Option<usize>
-    requires counts { length counts.now ≡ (B.Board.shape board.now).sites }
-    requires end { length end.now ≡ (B.Board.shape board.now).sites }
-    requires waiting { (B.Board.shape board.now).sites ≤ length waiting.old }
-    requires bytes { (B.Board.shape board.now).sites ≤ length bytes.old }
-    ensures { LowestBack (B.Board.shape board.now) (at counts.now) (at end.now) result }
-{
-    let mut list = WaitingList::new(waiting);
-    enter(counts, &mut list, bytes);
-    narrow(board, end, &mut list, bytes);
-    lowest_marked(bytes, counts.len())
+impl<'a, B: Board> Certificate<'a, B> {
+    // The lowest site of the largest set that can be taken back, or none where only the empty set can.
+    pub(crate) fn lowest_back(&self, waiting: &mut [usize], bytes: &mut [u8]) -> Option<usize>
+        requires waiting { (B.Board.shape self.now.board.now).sites ≤ length waiting.old }
+        requires bytes { (B.Board.shape self.now.board.now).sites ≤ length bytes.old }
+        ensures { LowestBack (B.Board.shape self.now.board.now) (at self.now.counts.now) (at self.now.end.now) result }
+    {
+        let mut list = WaitingList::new(waiting);
+        enter(self.counts, &mut list, bytes);
+        narrow(self.board, self.end, &mut list, bytes);
+        lowest_marked(bytes, self.counts.len())
+    }
 }

@@ -1,51 +1,23 @@
 -- What is left to show of `links_into`.
-use Rattle.std.proofs.Common.{cond, ap, ◌∙◌, arith}
-use Rattle.board.specs.Shape.{sum_below}
-use Rattle.board.specs.Walks.{linked_on}
-use Rattle.certificate.specs.Sets.{marked}
-use Rattle.certificate.proofs.Leaving.{into_more, into_all, into_fits}
+use Rattle.std.proofs.Common.{arith}
+use Rattle.std.proofs.lemmas.Grind.{common_steps}
+use Rattle.certificate.proofs.Leaving.{into_none, into_in, into_out, into_all, into_fits}
 use Rattle.certificate.proofs.back.links_into.Goals as goal
 
 pub loop-u-init : goal.loop-u-init
-unfolding sum_below
-loop-u-init g c = (omega arith, omega arith)
-
-pub bounds-bytes-u : goal.bounds-bytes-u
-bounds-bytes-u g c = omega (arith, linked_on (g.met.B.Board.sound c.args.board.now) c.args.v c.in-Some.u c.in-Some.ensures.linked)
+loop-u-init g c = grind (arith, common_steps, into_none (g.B.Board.shape c.args.board.now) c.args.bytes.now c.args.v)
 
 pub overflow_add-sum : goal.overflow_add-sum
 overflow_add-sum g c =
-    omega (
-      arith,
-      into_fits (g.met.B.Board.sound c.args.board.now) c.args.bytes.now c.args.v c.loop-u.j c.in-Some.u c.in-Some.ensures,
-      c.counted-sum.ensures,
-      ap (λ m. cond (marked c.args.bytes.now c.in-Some.u) m 0) c.links.ensures,
-    )
+    grind (arith, common_steps, into_fits (g.met.B.Board.sound c.args.board.now) c.args.bytes.now c.args.v c.loop-u.u-iterator.from c.in-Some.u c.loop-u.sum)
 
-pub overflow_add-j : goal.overflow_add-j
-overflow_add-j g c =
-    let ok = g.met.B.Board.sound c.args.board.now in
-    omega (arith, linked_on ok c.args.v c.in-Some.u c.in-Some.ensures.linked, ok.few)
-
-pub loop-u-smaller : goal.loop-u-smaller
-loop-u-smaller g c =
-    let ok = g.met.B.Board.sound c.args.board.now in
-    let h = c.in-Some.ensures in
-    omega (arith, linked_on ok c.args.v c.in-Some.u h.linked, h.from)
+pub loop-u-preserved-then-bytes-u-gt0 : goal.loop-u-preserved-then-bytes-u-gt0
+loop-u-preserved-then-bytes-u-gt0 g c =
+    grind (arith, common_steps, into_in (g.met.B.Board.sound c.args.board.now) c.args.bytes.now c.args.v)
 
 pub loop-u-preserved : goal.loop-u-preserved
 loop-u-preserved g c =
-    let ok = g.met.B.Board.sound c.args.board.now in
-    let h = c.in-Some.ensures in (
-      omega (arith, linked_on ok c.args.v c.in-Some.u h.linked),
-      omega (
-        arith,
-        into_more ok c.args.bytes.now c.args.v c.loop-u.j c.in-Some.u h,
-        c.counted-sum.ensures,
-        ap (λ m. cond (marked c.args.bytes.now c.in-Some.u) m 0) c.links.ensures,
-      ),
-    )
+    grind (arith, common_steps, into_out (g.met.B.Board.sound c.args.board.now) c.args.bytes.now c.args.v)
 
 pub returns : goal.returns
-returns g c =
-    c.loop-u.invariant.1 ∙ into_all (g.met.B.Board.sound c.args.board.now) c.args.bytes.now c.args.v c.loop-u.j c.loop-u.invariant.0 c.in_default.ensures
+returns g c = grind (arith, common_steps, into_all (g.met.B.Board.sound c.args.board.now) c.args.bytes.now c.args.v)
