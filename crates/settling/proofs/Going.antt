@@ -11,9 +11,11 @@ use Rattle.firing.proofs.Sums.{sum_jump}
 use Rattle.firing.proofs.Action.{inflow_le, run_follows, least_action, follows_conserves, run_least}
 use Rattle.settling.specs.declared.settle.Outcome.{Outcome}
 use Rattle.firing.specs.Firing.{at}
-use Rattle.settling.specs.Marks.{occurs, Queued, Covered, WaitRound, Visited}
+use Rattle.settling.specs.Searches as Searches
+use Rattle.settling.specs.Waits.{Turned}
+use Rattle.settling.specs.Marks.{Queued, Covered, Visited}
 use Rattle.settling.specs.Settlings.{Ran, Noted, Tallied, Counted}
-use Rattle.settling.proofs.Marking.{queued_pop, popped_on, covered_pop, covered_fire}
+use Rattle.settling.proofs.Marking.{queued_pop, queued_turned, popped_on, covered_pop, covered_fire, none_marked}
 use Rattle.settling.proofs.Visits.{tallied_more}
 
 -- what holds between two visits
@@ -56,20 +58,20 @@ module _ (b : Shape) (c : ℕ → ℕ) (cs cs' ys ws ws' fs : List ℕ) (k limit
   }
 
   -- a visit with firings, after which the neighbours wait
-  pub going_fire : (zs cs'' ws'' fs'' : List ℕ) (t : ℕ) → ws ≡ v ∷ ws' → Going b c cs cs' ys ws fs k limit → k < limit → 1 ≤ t → Visited b v (limit - k) ys zs t
-      → Noted v t cs' cs'' → WaitRound b v (set fs v 0) ws'' fs'' → Going b c cs cs'' zs ws'' fs'' (k + t) limit
-  going_fire zs cs'' ws'' fs'' t e g less some visit noted round = record {
+  pub going_fire : (zs cs'' ws'' fs'' : List ℕ) (t : ℕ) → b.sites ≤ length fs → ws ≡ v ∷ ws' → Going b c cs cs' ys ws fs k limit → k < limit → 1 ≤ t → Visited b v (limit - k) ys zs t
+      → Noted v t cs' cs'' → Turned (λ u. 0 < b.m v u) 0 (set fs v 0) fs'' → Searches.Queued (λ u. u) b.sites ws'' fs'' → Going b c cs cs'' zs ws'' fs'' (k + t) limit
+  going_fire zs cs'' ws'' fs'' t long e g less some visit noted turned after = record {
     tallied = tallied_more b c (at ys) (at zs) cs cs' cs'' v t k (going_on e g) (visit.linked some) g.tallied visit.fires noted;
-    queued = round.queued;
-    covered = λ l. covered_fire b (at ys) (at zs) v fs ws'' fs''
+    queued = queued_turned (λ u. 0 < b.m v u) b.sites ws' (set fs v 0) ws'' fs'' (going_popped long e g) turned after;
+    covered = λ l. covered_fire b (at ys) (at zs) v fs ws' fs'' long
         (λ u on ne none. omega (arith, visit.fires.gets u on ne, ap (λ m. m * t) none, zero-mul t))
-        (visit.rest (omega arith)) (g.covered less) round;
+        (visit.rest (omega arith)) (g.covered less) (going_popped long e g) turned;
     within = omega (arith, visit.within);
   }
 
 pub going_still : (b : Shape) (c : ℕ → ℕ) (cs cs' ys ws fs : List ℕ) (k limit : ℕ) → ws ≡ [] → Going b c cs cs' ys ws fs k limit → k < limit → Still b (at ys)
 going_still b c cs cs' ys ws fs k limit e g less v l can =
-    omega (arith, g.covered less v l can, g.queued.marked v l, ap (occurs v) e)
+    none_marked b.sites ws fs e g.queued v l (g.covered less v l can)
 
 -- what falls with each visit: firings are left, or sites that wait
 pub falls_fire : (limit k n t l l' : ℕ) → 1 ≤ t → k + t ≤ limit → l' ≤ n → (limit - (k + t)) * (n + 1) + l' < (limit - k) * (n + 1) + l

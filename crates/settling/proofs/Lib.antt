@@ -6,3 +6,4 @@ pub mod Going
 pub mod Queues
 pub mod Searching
 pub mod CountingRows
+pub mod Waited

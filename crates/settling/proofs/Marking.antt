@@ -1,162 +1,58 @@
--- The waiting sites and their marks.
-use Rattle.std.proofs.Common.{◌≡◌, ℕ, ◌+◌, ◌<◌, ◌≤◌, Bool, true, false, cond, eqb, ◌≢◌, List, [], ◌∷◌, ◌++◌, length, set, sym, refl, ap, ◌∙◌, subst, inl, inr, mul-one, arith, length-append, get_or-set_other, get_or-set_same, eq-eqb, ne_eqb}
-use Rattle.std.proofs.lemmas.Bool.{cases_lt, cases_eq, cases_order, cond-true, cond-false}
-use Rattle.board.specs.Shape.{Shape, Sound, Least, sum_below}
-use Rattle.board.specs.Sums.{sum_const}
-use Rattle.board.specs.Walks.{linked_on}
+-- The waiting sites of a settling and their marks.
+use Rattle.std.proofs.Common.{◌≡◌, ℕ, ◌+◌, ◌<◌, ◌≤◌, ◌≢◌, List, [], ◌∷◌, length, set, ap, ◌∙◌, subst, inl, inr, arith, length-set}
+use Rattle.std.proofs.lemmas.Bool.{cases_lt, cases_eq}
+use Rattle.board.specs.Shape.{Shape}
 use Rattle.firing.specs.Firing.{CanFire}
-use Rattle.firing.proofs.Sums.{sum_point}
-use Rattle.waiting.specs.declared.WaitingList.{WaitingList}
-use Rattle.waiting.specs.WaitingLists.{waits, room, Pushed}
 use Rattle.firing.specs.Firing.{at}
-use Rattle.settling.specs.Marks.{occurs, Queued, Covered, Grown, Waits, WaitRound}
-
-hit : (u : ℕ) → ◌≡◌ {A = ℕ} (cond (eqb u u) 1 0) 1
-hit u = cond-true (eqb u u) 1 0 (eq-eqb u u refl)
-
-miss : (u x : ℕ) → u ≢ x → ◌≡◌ {A = ℕ} (cond (eqb u x) 1 0) 0
-miss u x ne = cond-false (eqb u x) 1 0 (ne_eqb u x ne)
-
-occurs_last : (u x : ℕ) (ws : List ℕ) → occurs u (ws ++ x ∷ []) ≡ occurs u ws + cond (eqb u x) 1 0
-occurs_last u x [] = omega arith
-occurs_last u x (y ∷ ws) = omega (arith, occurs_last u x ws)
-
-occurs_length : (n : ℕ) (ws : List ℕ) → ((u : ℕ) → n ≤ u → occurs u ws ≡ 0) → length ws ≤ sum_below n (λ u. occurs u ws)
-occurs_length n [] off = omega arith
-occurs_length n (x ∷ ws) off =
-    let on : x < n = elim (cases_lt x n) [ inl l ↦ l | inr l ↦ absurd (omega (arith, off x l, hit x)) ] in
-    omega (
-      arith,
-      occurs_length n ws (λ u l. omega (arith, off u l)),
-      sum_point n (λ u. occurs u ws) (λ u. occurs u (x ∷ ws)) x 1 on (omega (arith, hit x)) (λ u l ne. omega (arith, miss u x ne)),
-    )
+use Rattle.settling.specs.Searches as Searches
+use Rattle.settling.specs.Searches.{mark, occurs}
+use Rattle.settling.specs.Waits.{Turned}
+use Rattle.settling.specs.Marks.{Queued, Covered}
+use Rattle.settling.proofs.Queues as Queues
+use Rattle.settling.proofs.Queues.{mark_here, mark_there}
+use Rattle.settling.proofs.Waited.{turned_kept}
 
 -- no more wait than there are sites
 pub queued_length : (n : ℕ) (ws fs : List ℕ) → Queued n ws fs → length ws ≤ n
-queued_length n ws fs q =
-    omega (arith, occurs_length n ws q.off, mul-one n, sum_const n 1 (λ u. occurs u ws) (λ u l. omega (arith, q.marked u l, q.once u l)))
-
-mark_here : (fs : List ℕ) (u x : ℕ) → u < length fs → at (set fs u x) u ≡ x
-mark_here fs u x l = get_or-set_same fs u x 0 l
-
-mark_there : (fs : List ℕ) (u x k : ℕ) → k ≢ u → at (set fs u x) k ≡ at fs k
-mark_there fs u x k ne = get_or-set_other fs u k x 0 ne
-
--- a site without mark waits, as the last
-pub queued_push : (n u : ℕ) (ws fs : List ℕ) → n ≤ length fs → u < n → at fs u ≡ 0 → Queued n ws fs → Queued n (ws ++ u ∷ []) (set fs u 1)
-queued_push n u ws fs long on none q = record {
-  off = λ k l. omega (arith, q.off k l, occurs_last k u ws, miss k u (omega arith));
-  marked = λ k l. elim (cases_eq k u) [
-    | inl same ↦
-        ap (λ i. occurs i (ws ++ u ∷ [])) same
-        ∙ omega (arith, occurs_last u u ws, hit u, q.marked u on, mark_here fs u 1 (omega arith))
-        ∙ ap (at (set fs u 1)) (sym same)
-    | inr apart ↦ omega (arith, occurs_last k u ws, miss k u apart, q.marked k l, mark_there fs u 1 k apart)
-  ];
-  once = λ k l. elim (cases_eq k u) [
-    | inl same ↦ omega (arith, ap (at (set fs u 1)) same, mark_here fs u 1 (omega arith))
-    | inr apart ↦ omega (arith, mark_there fs u 1 k apart, q.once k l)
-  ];
-}
+queued_length n ws fs q = Queues.queued_length (λ v. v) n ws fs q.queued
 
 -- who waits is on the board
 pub popped_on : (n v : ℕ) (ws fs : List ℕ) → Queued n (v ∷ ws) fs → v < n
-popped_on n v ws fs q = elim (cases_lt v n) [ inl l ↦ l | inr l ↦ absurd (omega (arith, q.off v l, hit v)) ]
+popped_on n v ws fs q = (Queues.popped_on (λ u. u) n v ws fs q.queued).0
+
+low_set : (n m v x : ℕ) (fs : List ℕ) → v < length fs → x ≤ 1 → ((u : ℕ) → u < n → (u ≢ v) → mark fs u ≤ 1) → (u : ℕ) → u < n → mark (set fs v x) u ≤ 1
+low_set n m v x fs on le low u l = elim (cases_eq u v) [
+  | inl same ↦ omega (arith, mark_here fs v x u on same)
+  | inr apart ↦ omega (arith, mark_there fs v x u apart, low u l apart)
+]
 
 -- the first has waited, and loses its mark
 pub queued_pop : (n v : ℕ) (ws fs : List ℕ) → n ≤ length fs → Queued n (v ∷ ws) fs → Queued n ws (set fs v 0)
-queued_pop n v ws fs long q =
-    let on = popped_on n v ws fs q in
-    record {
-      off = λ k l. omega (arith, q.off k l);
-      marked = λ k l. elim (cases_eq k v) [
-        | inl same ↦
-            ap (λ i. occurs i ws) same
-            ∙ omega (arith, hit v, q.marked v on, q.once v on, mark_here fs v 0 (omega arith))
-            ∙ ap (at (set fs v 0)) (sym same)
-        | inr apart ↦ omega (arith, miss k v apart, q.marked k l, mark_there fs v 0 k apart)
-      ];
-      once = λ k l. elim (cases_eq k v) [
-        | inl same ↦ omega (arith, ap (at (set fs v 0)) same, mark_here fs v 0 (omega arith))
-        | inr apart ↦ omega (arith, mark_there fs v 0 k apart, q.once k l)
-      ];
-    }
+queued_pop n v ws fs long q = record {
+  queued = Queues.queued_pop_as (λ u. u) n 0 v ws fs (λ p. omega arith) (omega arith) long q.queued;
+  low = low_set n n v 0 fs (omega (arith, popped_on n v ws fs q)) (omega arith) (λ u l ne. q.low u l);
+}
 
 -- one site more is looked at, and has no mark yet
 pub queued_more : (n : ℕ) (ws fs : List ℕ) → n < length fs → Queued n ws fs → Queued (n + 1) ws (set fs n 0)
 queued_more n ws fs long q = record {
-  off = λ k l. q.off k (omega arith);
-  marked = λ k l. elim (cases_eq k n) [
-    | inl same ↦ ap (λ i. occurs i ws) same ∙ omega (arith, q.off n (omega arith), mark_here fs n 0 long) ∙ ap (at (set fs n 0)) (sym same)
-    | inr apart ↦ omega (arith, q.marked k (omega arith), mark_there fs n 0 k apart)
-  ];
-  once = λ k l. elim (cases_eq k n) [
-    | inl same ↦ omega (arith, ap (at (set fs n 0)) same, mark_here fs n 0 long)
-    | inr apart ↦ omega (arith, mark_there fs n 0 k apart, q.once k (omega arith))
-  ];
+  queued = Queues.queued_more (λ u. u) n 0 ws fs long (λ p. omega arith) (omega arith) q.queued;
+  low = low_set (n + 1) n n 0 fs long (omega arith) (λ u l ne. q.low u (omega arith));
 }
 
--- a push where there is room
-pushed_in : (q q' : WaitingList ℕ) (x : ℕ) (r : Bool) → Pushed q x q' r → length (waits q) < room q → waits q' ≡ waits q ++ x ∷ []
-pushed_in q q' x true p l = p.1
-pushed_in q q' x false p l = absurd (omega (arith, p.0))
-
-pub waits_push : (n u : ℕ) (q q' : WaitingList ℕ) (r : Bool) (fs : List ℕ) → at fs u ≡ 0 → Pushed q u q' r
-    → u < n → n ≤ length fs → n ≤ room q → Queued n (waits q) fs → Waits n u fs (waits q') (set fs u 1)
-waits_push n u q q' r fs none p on long rooms wait =
-    let after = queued_push n u (waits q) fs long on none wait in
-    let less : length (waits q) < room q = omega (arith, queued_length n (waits q ++ u ∷ []) (set fs u 1) after, length-append (waits q) (u ∷ [])) in
-    record {
-      queued = subst (λ w. Queued n w (set fs u 1)) (sym (pushed_in q q' u r p less)) after;
-      grown = λ k l. elim (cases_eq k u) [
-        | inl same ↦ omega (arith, ap (at fs) same)
-        | inr apart ↦ omega (arith, mark_there fs u 1 k apart)
-      ];
-      here = mark_here fs u 1 (omega arith);
-    }
-
-pub waits_yet : (n u : ℕ) (ws fs : List ℕ) → (at fs u ≡ 0 → ⊥) → u < n → Queued n ws fs → Waits n u fs ws fs
-waits_yet n u ws fs some on wait = record {
-  queued = wait;
-  grown = λ k l. omega arith;
-  here = elim (cases_eq (at fs u) 0) [ inl e ↦ absurd (some e) | inr ne ↦ omega (arith, wait.once u on) ];
+-- sites without mark were had wait
+pub queued_turned : (P : ℕ → Type 0) (n : ℕ) (ws fs ws' fs' : List ℕ) → Queued n ws fs → Turned P 0 fs fs' → Searches.Queued (λ v. v) n ws' fs' → Queued n ws' fs'
+queued_turned P n ws fs ws' fs' q t after = record {
+  queued = after;
+  low = λ u l. elim (t.only u) [ inl same ↦ omega (arith, q.low u l) | inr new ↦ omega (arith, new.1) ];
 }
 
--- the sites below j that v is linked to wait
-pub record Walked (b : Shape) (v j : ℕ) (fs ws' fs' : List ℕ) : Type 0 where
-  pub on : j ≤ b.sites
-  pub queued : Queued b.sites ws' fs'
-  pub grown : Grown b.sites fs fs'
-  pub linked : (u : ℕ) → u < j → 0 < b.m v u → at fs' u ≡ 1
-
-still_set : (n x u : ℕ) (fs ws' fs' : List ℕ) → Waits n x fs ws' fs' → u < n → at fs u ≡ 1 → at fs' u ≡ 1
-still_set n x u fs ws' fs' o l e = omega (arith, o.grown u l, o.queued.once u l)
-
-pub walked_more : {b : Shape} → Sound b → (v j u : ℕ) (fs ws fs' ws'' fs'' : List ℕ) → Walked b v j fs ws fs' → Least (b.m v) j u
-    → Waits b.sites u fs' ws'' fs'' → Walked b v (u + 1) fs ws'' fs''
-walked_more {b} ok v j u fs ws fs' ws'' fs'' w least o = record {
-  on = omega (arith, linked_on ok v u least.linked);
-  queued = o.queued;
-  grown = λ k l. omega (arith, w.grown k l, o.grown k l);
-  linked = λ k l some. elim (cases_order k u) [
-    | inl same ↦ ap (at fs'') same ∙ o.here
-    | inr (inl less) ↦ elim (cases_lt k j) [
-      | inl before ↦ still_set b.sites u k fs' ws'' fs'' o (linked_on ok v k some) (w.linked k before some)
-      | inr from ↦ absurd (omega (arith, least.before k from less))
-    ]
-    | inr (inr more) ↦ absurd (omega arith)
-  ];
-}
-
-pub walked_end : {b : Shape} (v j : ℕ) (fs ws fs' : List ℕ) → Walked b v j fs ws fs' → ((k : ℕ) → j ≤ k → b.m v k ≡ 0) → WaitRound b v fs ws fs'
-walked_end {b} v j fs ws fs' w none = record {
-  queued = w.queued;
-  grown = w.grown;
-  linked = λ k some. elim (cases_lt k j) [
-    | inl before ↦ w.linked k before some
-    | inr from ↦ absurd (omega (arith, none k from))
-  ];
-}
+-- each of them waits now
+pub turned_on : (P : ℕ → Type 0) (fs fs' : List ℕ) → Turned P 0 fs fs' → (u : ℕ) → P u → u < length fs → mark fs u ≤ 1 → mark fs' u ≡ 1
+turned_on P fs fs' t u p l low = elim (cases_eq (mark fs u) 0) [
+  | inl e ↦ t.all u p l e
+  | inr ne ↦ omega (arith, turned_kept P 0 fs fs' t u ne)
+]
 
 -- a site that has waited and cannot fire
 pub covered_pop : (b : Shape) (h : ℕ → ℕ) (v : ℕ) (fs : List ℕ) → (CanFire b h v → ⊥) → Covered b h fs → Covered b h (set fs v 0)
@@ -166,15 +62,16 @@ covered_pop b h v fs not all u l can = elim (cases_eq u v) [
 ]
 
 -- a site that has waited and fired until it cannot
-pub covered_fire : (b : Shape) (h h' : ℕ → ℕ) (v : ℕ) (fs ws fs' : List ℕ) → ((u : ℕ) → u < b.sites → u ≢ v → b.m v u ≡ 0 → h' u ≡ h u)
-    → (CanFire b h' v → ⊥) → Covered b h fs → WaitRound b v (set fs v 0) ws fs' → Covered b h' fs'
-covered_fire b h h' v fs ws fs' same not all round u l can = elim (cases_eq u v) [
+pub covered_fire : (b : Shape) (h h' : ℕ → ℕ) (v : ℕ) (fs ws fs' : List ℕ) → b.sites ≤ length fs → ((u : ℕ) → u < b.sites → u ≢ v → b.m v u ≡ 0 → h' u ≡ h u)
+    → (CanFire b h' v → ⊥) → Covered b h fs → Queued b.sites ws (set fs v 0) → Turned (λ u. 0 < b.m v u) 0 (set fs v 0) fs' → Covered b h' fs'
+covered_fire b h h' v fs ws fs' long same not all q t u l can = elim (cases_eq u v) [
   | inl here ↦ absurd (not (subst (CanFire b h') here can))
   | inr apart ↦ elim (cases_lt 0 (b.m v u)) [
-    | inl some ↦ round.linked u some
+    | inl some ↦ turned_on (λ k. 0 < b.m v k) (set fs v 0) fs' t u some (omega (arith, length-set fs v 0)) (q.low u l)
     | inr none ↦
         let was : CanFire b h u = (can.0, omega (arith, can.1, same u l apart (omega arith))) in
-        omega (arith, all u l was, mark_there fs v 0 u apart, round.grown u l, round.queued.once u l)
+        let one : mark (set fs v 0) u ≡ 1 = mark_there fs v 0 u apart ∙ all u l was in
+        turned_kept (λ k. 0 < b.m v k) 0 (set fs v 0) fs' t u (λ e. omega arith) ∙ one
   ]
 ]
 
@@ -191,11 +88,19 @@ scanned_skip P n ws fs long s not = (
   ],
 )
 
-pub scanned_wait : (P : ℕ → Type 0) (n : ℕ) (ws fs ws' fs' : List ℕ) → Scanned P n ws fs → Waits (n + 1) n (set fs n 0) ws' fs' → Scanned P (n + 1) ws' fs'
-scanned_wait P n ws fs ws' fs' s w = (
-  w.queued,
-  λ u l p. elim (cases_eq u n) [
-    | inl same ↦ ap (at fs') same ∙ w.here
-    | inr apart ↦ omega (arith, s.1 u (omega arith) p, mark_there fs n 0 u apart, w.grown u l, w.queued.once u l)
-  ],
-)
+pub scanned_wait : (P : ℕ → Type 0) (n : ℕ) (ws fs ws' fs' : List ℕ) → n < length fs → Scanned P n ws fs → Turned (λ u. u ≡ n) 0 (set fs n 0) fs'
+    → (Searches.Queued (λ v. v) (n + 1) ws (set fs n 0) → Searches.Queued (λ v. v) (n + 1) ws' fs') → Scanned P (n + 1) ws' fs'
+scanned_wait P n ws fs ws' fs' long s t keeps =
+    let more = queued_more n ws fs long s.0 in (
+      queued_turned (λ u. u ≡ n) (n + 1) ws (set fs n 0) ws' fs' more t (keeps more.queued),
+      λ u l p. elim (cases_eq u n) [
+        | inl same ↦ turned_on (λ k. k ≡ n) (set fs n 0) fs' t u same (omega (arith, length-set fs n 0)) (more.low u l)
+        | inr apart ↦
+            let one : mark (set fs n 0) u ≡ 1 = mark_there fs n 0 u apart ∙ s.1 u (omega arith) p in
+            turned_kept (λ k. k ≡ n) 0 (set fs n 0) fs' t u (λ e. omega arith) ∙ one
+      ],
+    )
+
+-- nothing waits: no site has the mark 1
+pub none_marked : (n : ℕ) (ws fs : List ℕ) → ws ≡ [] → Queued n ws fs → (u : ℕ) → u < n → mark fs u ≡ 1 → ⊥
+none_marked n ws fs e q u l one = omega (arith, q.queued.once u l one, ap (occurs (λ v. v) u) e)

@@ -6,7 +6,7 @@ use Rattle.board.specs.Sums.{sum_const}
 use Rattle.firing.proofs.Sums.{sum_point}
 use Rattle.waiting.specs.declared.WaitingList.{WaitingList}
 use Rattle.waiting.specs.WaitingLists.{waits, room, Pushed}
-use Rattle.settling.specs.Searches.{mark, occurs, Queued, Offered}
+use Rattle.settling.specs.Searches.{mark, occurs, Queued}
 
 pub hit : (u x : ℕ) → u ≡ x → ◌≡◌ {A = ℕ} (cond (eqb u x) 1 0) 1
 hit u x e = cond-true (eqb u x) 1 0 (eq-eqb u x e)
@@ -73,24 +73,64 @@ module _ {T : Type 0} (site : T → ℕ) where
       let on : site e < n = elim (cases_lt (site e) n) [ inl l ↦ l | inr l ↦ absurd (omega (arith, q.off (site e) l)) ] in
       (on, elim (cases_eq (mark fs (site e)) 1) [ inl p ↦ p | inr ne ↦ absurd (omega (arith, q.none (site e) on ne)) ])
 
-  -- the first entry goes, its site marked as visited
-  pub queued_pop : (n : ℕ) (e : T) (es : List T) (fs : List ℕ) → n ≤ length fs → Queued site n (e ∷ es) fs → Queued site n es (set fs (site e) 2)
-  queued_pop n e es fs long q =
+  -- the first entry goes, and its site gets a mark by which it does not wait
+  pub queued_pop_as : (n x : ℕ) (e : T) (es : List T) (fs : List ℕ) → (x ≡ 1 → ⊥) → x ≤ 2 → n ≤ length fs → Queued site n (e ∷ es) fs → Queued site n es (set fs (site e) x)
+  queued_pop_as n x e es fs ne le long q =
       let was = popped_on n e es fs q in record {
         off = λ u l. omega (arith, q.off u l);
         once = λ u l one. elim (cases_eq u (site e)) [
-          | inl same ↦ absurd (omega (arith, mark_here fs (site e) 2 u (omega arith) same))
-          | inr apart ↦ omega (arith, miss u (site e) apart, q.once u l (omega (arith, mark_there fs (site e) 2 u apart)))
+          | inl same ↦ absurd (ne (sym (mark_here fs (site e) x u (omega arith) same) ∙ one))
+          | inr apart ↦ omega (arith, miss u (site e) apart, q.once u l (omega (arith, mark_there fs (site e) x u apart)))
         ];
-        none = λ u l ne. elim (cases_eq u (site e)) [
+        none = λ u l not. elim (cases_eq u (site e)) [
           | inl same ↦ omega (arith, hit u (site e) same, q.once u l (ap (mark fs) same ∙ was.1))
-          | inr apart ↦ omega (arith, miss u (site e) apart, q.none u l (λ p. ne (omega (arith, mark_there fs (site e) 2 u apart))))
+          | inr apart ↦ omega (arith, miss u (site e) apart, q.none u l (λ p. not (omega (arith, mark_there fs (site e) x u apart))))
         ];
         most = λ u l. elim (cases_eq u (site e)) [
-          | inl same ↦ omega (arith, mark_here fs (site e) 2 u (omega arith) same)
-          | inr apart ↦ omega (arith, mark_there fs (site e) 2 u apart, q.most u l)
+          | inl same ↦ omega (arith, mark_here fs (site e) x u (omega arith) same)
+          | inr apart ↦ omega (arith, mark_there fs (site e) x u apart, q.most u l)
         ];
       }
+
+  -- the first entry goes, its site marked as visited
+  pub queued_pop : (n : ℕ) (e : T) (es : List T) (fs : List ℕ) → n ≤ length fs → Queued site n (e ∷ es) fs → Queued site n es (set fs (site e) 2)
+  queued_pop n e es fs = queued_pop_as n 2 e es fs (λ p. omega arith) (omega arith)
+
+  -- a site that does not wait gets another mark by which it does not
+  pub queued_set : (n v x : ℕ) (es : List T) (fs : List ℕ) → n ≤ length fs → v < n → (mark fs v ≡ 1 → ⊥) → (x ≡ 1 → ⊥) → x ≤ 2 → Queued site n es fs → Queued site n es (set fs v x)
+  queued_set n v x es fs long on idle ne le q = record {
+    off = q.off;
+    once = λ u l one. elim (cases_eq u v) [
+      | inl same ↦ absurd (ne (sym (mark_here fs v x u (omega arith) same) ∙ one))
+      | inr apart ↦ q.once u l (sym (mark_there fs v x u apart) ∙ one)
+    ];
+    none = λ u l not. elim (cases_eq u v) [
+      | inl same ↦ q.none u l (λ p. idle (sym (ap (mark fs) same) ∙ p))
+      | inr apart ↦ q.none u l (λ p. not (mark_there fs v x u apart ∙ p))
+    ];
+    most = λ u l. elim (cases_eq u v) [
+      | inl same ↦ omega (arith, mark_here fs v x u (omega arith) same)
+      | inr apart ↦ omega (arith, mark_there fs v x u apart, q.most u l)
+    ];
+  }
+
+  -- one site more is marked, and does not wait
+  pub queued_more : (n x : ℕ) (es : List T) (fs : List ℕ) → n < length fs → (x ≡ 1 → ⊥) → x ≤ 2 → Queued site n es fs → Queued site (n + 1) es (set fs n x)
+  queued_more n x es fs long ne le q = record {
+    off = λ u l. q.off u (omega arith);
+    once = λ u l one. elim (cases_eq u n) [
+      | inl same ↦ absurd (ne (sym (mark_here fs n x u long same) ∙ one))
+      | inr apart ↦ q.once u (omega arith) (sym (mark_there fs n x u apart) ∙ one)
+    ];
+    none = λ u l not. elim (cases_eq u n) [
+      | inl same ↦ q.off u (omega arith)
+      | inr apart ↦ q.none u (omega arith) (λ p. not (mark_there fs n x u apart ∙ p))
+    ];
+    most = λ u l. elim (cases_eq u n) [
+      | inl same ↦ omega (arith, mark_here fs n x u long same)
+      | inr apart ↦ omega (arith, mark_there fs n x u apart, q.most u (omega arith))
+    ];
+  }
 
   -- a push where there is room
   pushed_in : (q q' : WaitingList T) (e : T) (r : Bool) → Pushed q e q' r → length (waits q) < room q → waits q' ≡ waits q ++ e ∷ []
@@ -106,16 +146,3 @@ module _ {T : Type 0} (site : T → ℕ) where
   pub pushed_new : (n v : ℕ) (e : T) (q q' : WaitingList T) (r : Bool) (fs : List ℕ) → site e ≡ v → n ≤ room q → n ≤ length fs → v < n → mark fs v ≡ 0 → Queued site n (waits q) fs → Pushed q e q' r
       → waits q' ≡ waits q ++ e ∷ []
   pushed_new n v e q q' r fs is rooms long on nil = pushed_wait n v e q q' r fs is rooms long on (λ p. omega arith)
-
-  pub offered_new : (n v : ℕ) (e : T) (q q' : WaitingList T) (r : Bool) (fs : List ℕ) → site e ≡ v → n ≤ room q → n ≤ length fs → v < n → mark fs v ≡ 0 → Queued site n (waits q) fs → Pushed q e q' r
-      → Offered site n v fs (waits q') (set fs v 1)
-  offered_new n v e q q' r fs is rooms long on nil wait p = record {
-    queued = subst (λ w. Queued site n w (set fs v 1)) (sym (pushed_new n v e q q' r fs is rooms long on nil wait p)) (queued_push n v e (waits q) fs is long on nil wait);
-    found = omega (arith, mark_here fs v 1 v (omega arith) refl);
-    kept = λ l. absurd (omega arith);
-    new = λ z. mark_here fs v 1 v (omega arith) refl;
-    others = λ u ne. mark_there fs v 1 u ne;
-  }
-
-  pub offered_old : (n v : ℕ) (es : List T) (fs : List ℕ) → 1 ≤ mark fs v → Queued site n es fs → Offered site n v fs es fs
-  offered_old n v es fs l q = record { queued = q; found = l; kept = λ p. refl; new = λ z. absurd (omega arith); others = λ u ne. refl }

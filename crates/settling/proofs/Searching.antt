@@ -1,13 +1,15 @@
 -- The turns of a search.
-use Rattle.std.proofs.Common.{◌≡◌, ℕ, ◌+◌, ◌-◌, ◌<◌, ◌≤◌, List, [], ◌∷◌, length, set, sym, refl, ap, ◌∙◌, subst, inl, inr, arith}
+use Rattle.std.proofs.Common.{◌≡◌, ℕ, ◌+◌, ◌-◌, ◌<◌, ◌≤◌, List, [], ◌∷◌, length, set, sym, refl, ap, ◌∙◌, subst, inl, inr, arith, length-set}
 use Rattle.std.proofs.lemmas.Bool.{cases_lt, cases_eq, cases_order}
 use Rattle.board.specs.Shape.{Shape, Sound, Least, sum_below}
 use Rattle.board.specs.Sums.{sum_const}
 use Rattle.board.specs.Walks.{linked_on}
 use Rattle.firing.specs.Reaching.{Reaches, out, along}
 use Rattle.firing.proofs.Sums.{sum_jump}
-use Rattle.settling.specs.Searches.{mark, occurs, Queued, Offered, Grown, Found, Searching, Searched}
+use Rattle.settling.specs.Searches.{mark, occurs, Queued, Searching, Searched}
+use Rattle.settling.specs.Waits.{Turned}
 use Rattle.settling.proofs.Queues.{mark_here, mark_there, queued_none, popped_on}
+use Rattle.settling.proofs.Waited.{turned_kept, turned_not}
 
 module _ {T : Type 0} (site : T → ℕ) (b : Shape) where
   -- of the sites below i, those that are linked to the drain are found, and no others
@@ -26,21 +28,21 @@ module _ {T : Type 0} (site : T → ℕ) (b : Shape) where
     all = λ u l s. elim (cases_eq u i) [ inl same ↦ absurd (omega (arith, ap b.s same)) | inr apart ↦ k.all u (omega arith) s ];
   }
 
-  pub seeded_more : (i : ℕ) (es : List T) (fs : List ℕ) (es' : List T) (fs' : List ℕ) → 1 ≤ b.s i → Seeded i es fs → Offered site b.sites i fs es' fs' → Seeded (i + 1) es' fs'
-  seeded_more i es fs es' fs' some k o = record {
-    queued = o.queued;
-    new = λ u l m. elim (cases_eq u i) [
-      | inl same ↦ subst (λ x. (mark fs' x ≡ 1) × (1 ≤ b.s x)) (sym same) (fresh (subst (λ x. x < b.sites) same l), some)
-      | inr apart ↦ let was = k.new u l (omega (arith, o.others u apart)) in (o.others u apart ∙ was.0, was.1)
+  pub seeded_more : (i : ℕ) (es : List T) (fs : List ℕ) (es' : List T) (fs' : List ℕ) → i < length fs → 1 ≤ b.s i → Seeded i es fs → Turned (λ u. u ≡ i) 0 fs fs' → Queued site b.sites es' fs' → Seeded (i + 1) es' fs'
+  seeded_more i es fs es' fs' on some k t q = record {
+    queued = q;
+    new = λ u l m. elim (t.only u) [
+      | inl same ↦ let was = k.new u l (omega arith) in (same ∙ was.0, was.1)
+      | inr new ↦ (new.1, subst (λ x. 1 ≤ b.s x) (sym new.2) some)
     ];
-    all = λ u l s. elim (cases_eq u i) [
-      | inl same ↦ omega (arith, ap (mark fs') same, o.found)
-      | inr apart ↦ omega (arith, o.others u apart, k.all u (omega arith) s)
+    all = λ u l s. elim (t.only u) [
+      | inl same ↦ elim (cases_eq u i) [
+        | inl here ↦ elim (cases_lt 0 (mark fs u)) [ inl p ↦ omega arith | inr z ↦ omega (arith, t.all u here (omega arith) (omega arith)) ]
+        | inr apart ↦ omega (arith, k.all u (omega arith) s)
+      ]
+      | inr new ↦ omega (arith, new.1)
     ];
   }
-    where
-      fresh : i < b.sites → mark fs' i ≡ 1
-      fresh l = elim (cases_lt 0 (mark fs i)) [ inl p ↦ omega (arith, o.kept p, (k.new i l p).0) | inr p ↦ o.new (omega arith) ]
 
   pub seeded_all : (es : List T) (fs : List ℕ) → Seeded b.sites es fs → Searching site b es fs
   seeded_all es fs k = record {
@@ -50,82 +52,35 @@ module _ {T : Type 0} (site : T → ℕ) (b : Shape) where
     closed = λ v u l two m. absurd (omega (arith, (k.new v l (omega arith)).0));
   }
 
-  -- the sites below j that v is linked to are found, and what is new is linked to v
-  pub record Walked (v j : ℕ) (fs : List ℕ) (es' : List T) (fs' : List ℕ) : Type 0 where
-    pub on : j ≤ b.sites
-    pub queued : Queued site b.sites es' fs'
-    pub grown : Grown (λ u. 1 ≤ b.m v u) fs fs'
-    pub all : (u : ℕ) → u < j → 1 ≤ b.m v u → 1 ≤ mark fs' u
-
-  pub walked_none : (v : ℕ) (es : List T) (fs : List ℕ) → Queued site b.sites es fs → Walked v 0 fs es fs
-  walked_none v es fs q = record { on = omega arith; queued = q; grown = λ u. (λ l. refl, λ z l. absurd (omega arith)); all = λ u l m. absurd (omega arith) }
-
-  pub walked_more : Sound b → (v j u : ℕ) (fs : List ℕ) (es : List T) (fs' : List ℕ) (es'' : List T) (fs'' : List ℕ) → Walked v j fs es fs' → Least (b.m v) j u → Offered site b.sites u fs' es'' fs''
-      → Walked v (u + 1) fs es'' fs''
-  walked_more ok v j u fs es fs' es'' fs'' w least o = record {
-    on = omega (arith, linked_on ok v u least.linked);
-    queued = o.queued;
-    grown = λ k. (λ l. old k l ∙ (w.grown k).0 l, λ z l. fresh k z l);
-    all = λ k l m. elim (cases_order k u) [
-      | inl same ↦ omega (arith, ap (mark fs'') same, o.found)
-      | inr (inl less) ↦ elim (cases_lt k j) [
-        | inl before ↦ omega (arith, o.others k (λ e. omega arith), w.all k before m)
-        | inr from ↦ absurd (omega (arith, least.before k from less))
-      ]
-      | inr (inr more) ↦ absurd (omega arith)
-    ];
-  }
-    where
-      old : (k : ℕ) → 1 ≤ mark fs k → mark fs'' k ≡ mark fs' k
-      old k l = elim (cases_eq k u) [
-        | inl same ↦ ap (mark fs'') same ∙ o.kept (omega (arith, ap (mark fs) same, ap (mark fs') same, (w.grown k).0 l)) ∙ ap (mark fs') (sym same)
-        | inr apart ↦ o.others k apart
-      ]
-
-      fresh : (k : ℕ) → mark fs k ≡ 0 → 1 ≤ mark fs'' k → (mark fs'' k ≡ 1) × (1 ≤ b.m v k)
-      fresh k z l = elim (cases_eq k u) [
-        | inl same ↦
-            let m : 1 ≤ b.m v k = subst (λ x. 1 ≤ b.m v x) (sym same) least.linked in (
-              ap (mark fs'') same ∙ (elim (cases_lt 0 (mark fs' u)) [
-                | inl p ↦ o.kept p ∙ ap (mark fs') (sym same) ∙ ((w.grown k).1 z (omega (arith, ap (mark fs') same))).0
-                | inr p ↦ o.new (omega arith)
-              ]),
-              m,
-            )
-        | inr apart ↦ let was = (w.grown k).1 z (omega (arith, o.others k apart)) in (o.others k apart ∙ was.0, was.1)
-      ]
-
-  pub walked_end : (v j : ℕ) (fs : List ℕ) (es : List T) (fs' : List ℕ) → ((k : ℕ) → j ≤ k → b.m v k ≡ 0) → Walked v j fs es fs' → Found site b.sites (λ u. 1 ≤ b.m v u) fs es fs'
-  walked_end v j fs es fs' past w = record {
-    queued = w.queued;
-    grown = w.grown;
-    all = λ u m. elim (cases_lt u j) [ inl l ↦ w.all u l m | inr l ↦ absurd (omega (arith, past u l)) ];
-  }
-
   -- marks after a visit of v
-  marks_after : (v : ℕ) (fs fs' : List ℕ) → v < length fs → Grown (λ u. 1 ≤ b.m v u) (set fs v 2) fs' → (u : ℕ) → mark fs v ≤ 2 → mark fs u ≤ mark fs' u
-  marks_after v fs fs' l g u two = elim (cases_eq u v) [
-    | inl same ↦ omega (arith, ap (mark fs) same, mark_here fs v 2 u l same, (g u).0 (omega (arith, mark_here fs v 2 u l same)))
-    | inr apart ↦ elim (cases_lt 0 (mark fs u)) [
-      | inl p ↦ omega (arith, mark_there fs v 2 u apart, (g u).0 (omega (arith, mark_there fs v 2 u apart)))
-      | inr p ↦ omega arith
-    ]
+  marks_after : (v : ℕ) (fs fs' : List ℕ) → v < length fs → Turned (λ u. 0 < b.m v u) 0 (set fs v 2) fs' → (u : ℕ) → mark fs v ≤ 2 → mark fs u ≤ mark fs' u
+  marks_after v fs fs' l t u two = elim (cases_eq u v) [
+    | inl same ↦
+        let here : mark (set fs v 2) u ≡ 2 = mark_here fs v 2 u l same in
+        omega (arith, ap (mark fs) same, turned_kept (λ k. 0 < b.m v k) 0 (set fs v 2) fs' t u (λ e. omega arith))
+    | inr apart ↦
+        let there : mark (set fs v 2) u ≡ mark fs u = mark_there fs v 2 u apart in
+        elim (t.only u) [ inl stands ↦ omega arith | inr new ↦ omega (arith, new.0) ]
   ]
 
   -- one visit: v comes off the list, and what it is linked to is found
-  pub searching_more : Sound b → (e : T) (es es'' : List T) (fs fs'' : List ℕ) → b.sites ≤ length fs → Searching site b (e ∷ es) fs → Found site b.sites (λ u. 1 ≤ b.m (site e) u) (set fs (site e) 2) es'' fs'' → Searching site b es'' fs''
-  searching_more ok e es es'' fs fs'' long s f = record {
-    queued = f.queued;
+  pub searching_more : Sound b → (e : T) (es es'' : List T) (fs fs'' : List ℕ) → b.sites ≤ length fs → Searching site b (e ∷ es) fs → Turned (λ u. 0 < b.m (site e) u) 0 (set fs (site e) 2) fs'' → Queued site b.sites es'' fs''
+      → Searching site b es'' fs''
+  searching_more ok e es es'' fs fs'' long s t q = record {
+    queued = q;
     sound = λ u l m. elim (cases_lt 0 (mark fs u)) [
       | inl p ↦ s.sound u l p
-      | inr p ↦ elim (cases_eq u v) [
-        | inl same ↦ absurd (omega (arith, ap (mark fs) same, was.1))
-        | inr apart ↦ along u v l (omega (arith, ((f.grown u).1 (omega (arith, mark_there fs v 2 u apart)) m).1, ok.symmetric u v)) (s.sound v was.0 (omega (arith, was.1)))
+      | inr p ↦ elim (t.only u) [
+        | inl same ↦ elim (cases_eq u v) [
+          | inl here ↦ absurd (omega (arith, ap (mark fs) here, was.1))
+          | inr apart ↦ absurd (omega (arith, mark_there fs v 2 u apart))
+        ]
+        | inr new ↦ along u v l (omega (arith, new.2, ok.symmetric u v)) (s.sound v was.0 (omega (arith, was.1)))
       ]
     ];
     drain = λ u l m. omega (arith, s.drain u l m, up u);
     closed = λ x u l two m. elim (cases_eq x v) [
-      | inl same ↦ f.all u (subst (λ y. 1 ≤ b.m y u) same m)
+      | inl same ↦ met u (subst (λ y. 1 ≤ b.m y u) same m)
       | inr apart ↦ omega (arith, up u, s.closed x u l (before x apart two) m)
     ];
   }
@@ -137,24 +92,31 @@ module _ {T : Type 0} (site : T → ℕ) (b : Shape) where
       was = popped_on site b.sites e es fs s.queued
 
       up : (u : ℕ) → mark fs u ≤ mark fs'' u
-      up u = marks_after (site e) fs fs'' (omega (arith, was.0)) f.grown u (omega (arith, was.1))
+      up u = marks_after (site e) fs fs'' (omega (arith, was.0)) t u (omega (arith, was.1))
+
+      met : (u : ℕ) → 1 ≤ b.m (site e) u → 1 ≤ mark fs'' u
+      met u m = elim (cases_lt 0 (mark fs'' u)) [
+        | inl p ↦ p
+        | inr z ↦ absurd (turned_not (λ k. 0 < b.m (site e) k) 0 (set fs (site e) 2) fs'' (λ p. omega arith) t u (omega arith) (omega (arith, length-set fs (site e) 2, linked_on ok (site e) u (omega arith))) (omega arith))
+      ]
 
       before : (x : ℕ) → (x ≡ site e → ⊥) → mark fs'' x ≡ 2 → mark fs x ≡ 2
-      before x apart two = elim (cases_lt 0 (mark fs x)) [
-        | inl p ↦ omega (arith, mark_there fs (site e) 2 x apart, (f.grown x).0 (omega (arith, mark_there fs (site e) 2 x apart)))
-        | inr p ↦ absurd (omega (arith, ((f.grown x).1 (omega (arith, mark_there fs (site e) 2 x apart)) (omega arith)).0))
+      before x apart two = elim (t.only x) [
+        | inl same ↦ sym (mark_there fs (site e) 2 x apart) ∙ sym same ∙ two
+        | inr new ↦ absurd (omega (arith, new.1))
       ]
 
   -- and the sum of the marks grows, which is at most twice the sites
-  pub searching_less : (e : T) (es es'' : List T) (fs fs'' : List ℕ) → b.sites ≤ length fs → Queued site b.sites (e ∷ es) fs → Found site b.sites (λ u. 1 ≤ b.m (site e) u) (set fs (site e) 2) es'' fs''
+  pub searching_less : (e : T) (es es'' : List T) (fs fs'' : List ℕ) → b.sites ≤ length fs → Queued site b.sites (e ∷ es) fs → Turned (λ u. 0 < b.m (site e) u) 0 (set fs (site e) 2) fs'' → Queued site b.sites es'' fs''
       → b.sites + b.sites - sum_below b.sites (mark fs'') < b.sites + b.sites - sum_below b.sites (mark fs)
-  searching_less e es es'' fs fs'' long q f =
+  searching_less e es es'' fs fs'' long q t q'' =
       let was = popped_on site b.sites e es fs q in
-      let two = mark_here fs (site e) 2 (site e) (omega (arith, was.0)) refl in
+      let two : mark (set fs (site e) 2) (site e) ≡ 2 = mark_here fs (site e) 2 (site e) (omega (arith, was.0)) refl in
       omega (
         arith,
-        sum_jump b.sites (mark fs) (mark fs'') (site e) 1 was.0 (omega (arith, was.1, (f.grown (site e)).0 (omega arith))) (λ u l. marks_after (site e) fs fs'' (omega (arith, was.0)) f.grown u (omega (arith, was.1))),
-        sum_const b.sites 2 (mark fs'') f.queued.most,
+        sum_jump b.sites (mark fs) (mark fs'') (site e) 1 was.0 (omega (arith, was.1, turned_kept (λ u. 0 < b.m (site e) u) 0 (set fs (site e) 2) fs'' t (site e) (λ z. omega arith)))
+            (λ u l. marks_after (site e) fs fs'' (omega (arith, was.0)) t u (omega (arith, was.1))),
+        sum_const b.sites 2 (mark fs'') q''.most,
       )
 
   -- nothing waits: the search is whole

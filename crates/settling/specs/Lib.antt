@@ -3,3 +3,4 @@ pub mod Marks
 pub mod Settlings
 pub mod Searches
 pub mod Reaching
+pub mod Waits

@@ -19,24 +19,6 @@ pub record Queued {T : Type 0} (site : T → ℕ) (n : ℕ) (es : List T) (fs : 
   pub none : (u : ℕ) → u < n → (mark fs u ≢ 1) → occurs site u es ≡ 0
   pub most : (u : ℕ) → u < n → mark fs u ≤ 2
 
--- v was offered to the search: it is found now, and nothing else has changed
-pub record Offered {T : Type 0} (site : T → ℕ) (n v : ℕ) (fs : List ℕ) (es' : List T) (fs' : List ℕ) : Type 0 where
-  pub queued : Queued site n es' fs'
-  pub found : 1 ≤ mark fs' v
-  pub kept : 1 ≤ mark fs v → mark fs' v ≡ mark fs v
-  pub new : mark fs v ≡ 0 → mark fs' v ≡ 1
-  pub others : (u : ℕ) → (u ≢ v) → mark fs' u ≡ mark fs u
-
--- marks stand or are new; those of P only are new
-abbrev pub Grown : (ℕ → Type 0) → List ℕ → List ℕ → Type 0
-Grown P fs fs' = (u : ℕ) → (1 ≤ mark fs u → mark fs' u ≡ mark fs u) × (mark fs u ≡ 0 → 1 ≤ mark fs' u → (mark fs' u ≡ 1) × P u)
-
--- the sites of P are found, and what is new is of P
-pub record Found {T : Type 0} (site : T → ℕ) (n : ℕ) (P : ℕ → Type 0) (fs : List ℕ) (es' : List T) (fs' : List ℕ) : Type 0 where
-  pub queued : Queued site n es' fs'
-  pub grown : Grown P fs fs'
-  pub all : (u : ℕ) → P u → 1 ≤ mark fs' u
-
 -- between two visits: what is found reaches the drain, what is linked to it is found, and so is what a visited site is linked to
 pub record Searching {T : Type 0} (site : T → ℕ) (b : Shape) (es : List T) (fs : List ℕ) : Type 0 where
   pub queued : Queued site b.sites es fs

@@ -7,5 +7,6 @@ pub mod fire;
 pub mod near;
 pub mod reach;
 pub mod settle;
+pub mod waits;
 
 pub use entry::Entry;

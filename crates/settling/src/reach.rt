@@ -2,10 +2,11 @@
 ghost use Rattle.std.specs.Prelude.{◌≡◌, ℕ, ◌<◌, ◌≤◌, [], length};
 ghost use Rattle.refusal.specs.Table.{InOrder, rows};
 ghost use Rattle.waiting.specs.WaitingLists.{waits, room};
-ghost use Rattle.settling.specs.Searches.{mark, Queued, Offered, Found, Searching, Searched, LowestUnmarked};
+ghost use Rattle.settling.specs.Searches.{mark, Searching, Searched, LowestUnmarked};
 ghost use Rattle.settling.specs.Reaching.{ReachIs, work_checks};
 
 use super::Entry;
+use crate::waits::{wait, wait_round};
 use board::Board;
 use refusal::{Part, Refusal, Row};
 use waiting::WaitingList;
@@ -19,21 +20,6 @@ fn clear(bytes: &mut [u8])
     }
 }
 
-// Has `v` wait, unless it was found before.
-fn offer<E: Entry>(n: usize, list: &mut WaitingList<E>, bytes: &mut [u8], v: usize)
-    requires room { n ≤ room list.old }
-    requires bytes { n ≤ length bytes.old }
-    requires on { v < n }
-    requires queued { Queued E.Entry.site n (waits list.old) bytes.old }
-    ensures offered { Offered E.Entry.site n v bytes.old (waits list.new) bytes.new }
-    ensures room { room list.new ≡ room list.old }
-{
-    if bytes[v] == 0 {
-        bytes[v] = 1;
-        let _pushed = list.push(E::of_site(v));
-    }
-}
-
 // Finds each site that is linked to the drain.
 fn from_drain<B: Board, E: Entry>(board: &B, list: &mut WaitingList<E>, bytes: &mut [u8])
     requires room { (B.Board.shape board.now).sites ≤ room list.old }
@@ -43,28 +29,10 @@ fn from_drain<B: Board, E: Entry>(board: &B, list: &mut WaitingList<E>, bytes: &
     ensures searching { Searching E.Entry.site (B.Board.shape board.now) (waits list.new) bytes.new }
     ensures room { room list.new ≡ room list.old }
 {
-    let n = board.count();
-    for v in 0..n {
+    for v in 0..board.count() {
         if board.drain(v) >= 1 {
-            offer(n, list, bytes, v);
+            wait(list, bytes, v, 0);
         }
-    }
-}
-
-// Finds each site that `v` is linked to.
-fn spread<B: Board, E: Entry>(board: &B, list: &mut WaitingList<E>, bytes: &mut [u8], v: usize)
-    requires room { (B.Board.shape board.now).sites ≤ room list.old }
-    requires bytes { (B.Board.shape board.now).sites ≤ length bytes.old }
-    requires queued { Queued E.Entry.site (B.Board.shape board.now).sites (waits list.old) bytes.old }
-    ensures found { Found E.Entry.site (B.Board.shape board.now).sites (λ u. 1 ≤ (B.Board.shape board.now).m v u) bytes.old (waits list.new) bytes.new }
-    ensures room { room list.new ≡ room list.old }
-{
-    let n = board.count();
-    let mut j = 0;
-    loop {
-        let Some(u) = board.next(v, j) else { break };
-        offer(n, list, bytes, u);
-        j = u + 1;
     }
 }
 
@@ -79,7 +47,7 @@ fn search<B: Board, E: Entry>(board: &B, list: &mut WaitingList<E>, bytes: &mut 
         let Some(e) = list.pop() else { break };
         let v = e.site_of();
         bytes[v] = 2;
-        spread(board, list, bytes, v);
+        wait_round(board, list, bytes, v, 0);
     }
 }
 

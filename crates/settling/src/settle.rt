@@ -5,11 +5,11 @@ ghost use Rattle.board.specs.Shape.{sum_below};
 ghost use Rattle.firing.specs.Firing.{Still};
 ghost use Rattle.waiting.specs.WaitingLists.{waits, room};
 ghost use Rattle.firing.specs.Firing.{at};
-ghost use Rattle.settling.specs.Marks.{Queued, Covered, Waits, WaitRound, Visited};
+ghost use Rattle.settling.specs.Marks.{Queued, Covered, Visited};
 ghost use Rattle.settling.specs.Settlings.{Noted, Tallied, Ended, Counted, Fit, Checked, SettledBy, settle_checks};
 
 use crate::fire::{all_grains, can_fire, fire_times, is_enough, lowest_ready};
-use board::neighbours::Neighbours;
+use crate::waits::{wait, wait_round};
 use board::{Board, degree};
 use refusal::{Part, Refusal, Row};
 use waiting::WaitingList;
@@ -19,31 +19,6 @@ use waiting::WaitingList;
 pub struct Outcome {
     pub fired: u64,
     pub still: bool,
-}
-
-// Has `u` wait, unless it does.
-fn wait(list: &mut WaitingList<usize>, marks: &mut [u8], u: usize)
-    requires { u < length marks.old }
-    ensures waits { (n : ℕ) → u < n → n ≤ length marks.old → n ≤ room list.old → Queued n (waits list.old) marks.old → Waits n u marks.old (waits list.new) marks.new }
-    ensures room { room list.new ≡ room list.old }
-{
-    if marks[u] == 0 {
-        marks[u] = 1;
-        let _pushed = list.push(u);
-    }
-}
-
-// Has each site that `v` is linked to wait.
-fn wait_round<B: Board>(board: &B, list: &mut WaitingList<usize>, marks: &mut [u8], v: usize)
-    requires bytes { (B.Board.shape board.now).sites ≤ length marks.old }
-    requires room { (B.Board.shape board.now).sites ≤ room list.old }
-    requires queued { Queued (B.Board.shape board.now).sites (waits list.old) marks.old }
-    ensures round { WaitRound (B.Board.shape board.now) v marks.old (waits list.new) marks.new }
-    ensures room { room list.new ≡ room list.old }
-{
-    for u in Neighbours::of(board, v) {
-        wait(list, marks, u);
-    }
 }
 
 // Fires `v` as often as its height and `limit` allow, and says how often.
@@ -102,7 +77,7 @@ fn work_off<B: Board>(
         if times > 0 {
             fired += times;
             note(counts, v, times);
-            wait_round(board, list, marks, v);
+            wait_round(board, list, marks, v, 0);
         }
     }
     fired
@@ -120,7 +95,7 @@ fn scan<B: Board>(board: &B, heights: &[u64], list: &mut WaitingList<usize>, mar
     for v in 0..board.count() {
         marks[v] = 0;
         if can_fire(board, heights, v) {
-            wait(list, marks, v);
+            wait(list, marks, v, 0);
         }
     }
 }

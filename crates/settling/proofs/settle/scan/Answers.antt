@@ -3,7 +3,7 @@ use Rattle.std.proofs.Common.{◌+◌, ◌<◌, length, sym, ap, ◌∙◌, subs
 use Rattle.firing.specs.Firing.{CanFire}
 use Rattle.waiting.specs.WaitingLists.{waits, room}
 use Rattle.firing.specs.Firing.{at}
-use Rattle.settling.proofs.Marking.{Scanned, scanned_skip, scanned_wait, queued_more}
+use Rattle.settling.proofs.Marking.{Scanned, scanned_skip, scanned_wait}
 use Rattle.settling.proofs.settle.scan.Goals as goal
 use Rattle.settling.proofs.settle.scan.Goals.{then-can_fire, else-can_fire}
 
@@ -17,8 +17,8 @@ loop-v-preserved g c =
     let more = length-set c.loop-v.marks v 0 in
     elim c.if-can_fire.branch [
       | then-can_fire w ↦
-          let after = scanned_wait P v (waits c.loop-v.list) c.loop-v.marks (waits w.wait.new.list) w.wait.new.marks s
-          (w.wait.ensures.waits (v + 1) (omega arith) (omega arith) (omega (arith, c.requires.room, c.loop-v.invariant.1)) (queued_more v (waits c.loop-v.list) c.loop-v.marks long s.0)) in (
+          let after = scanned_wait P v (waits c.loop-v.list) c.loop-v.marks (waits w.wait.new.list) w.wait.new.marks long s w.wait.ensures.turned
+          (w.wait.ensures.queued (v + 1) (omega arith) (omega arith) (omega (arith, c.requires.room, c.loop-v.invariant.1)) (λ e. omega arith)) in (
             subst (λ l. Scanned P (v + 1) (waits l) c.if-can_fire.marks) (sym w.list-is) (subst (λ m. Scanned P (v + 1) (waits w.wait.new.list) m) (sym w.marks-is) after),
             ap room w.list-is ∙ w.wait.ensures.room ∙ c.loop-v.invariant.1,
           )

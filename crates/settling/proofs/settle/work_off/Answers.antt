@@ -2,7 +2,7 @@
 use Rattle.std.proofs.Common.{◌≡◌, length, refl, ◌∙◌, arith, length-set}
 use Rattle.waiting.specs.WaitingLists.{waits}
 use Rattle.firing.specs.Firing.{at}
-use Rattle.settling.proofs.Marking.{queued_length}
+use Rattle.settling.proofs.Queues.{queued_length}
 use Rattle.settling.proofs.Visits.{tallied_none}
 use Rattle.settling.proofs.Going.{ran_low, tallied_low, going_on, going_popped, going_skip, going_fire, falls_fire}
 use Rattle.settling.proofs.settle.work_off.Goals as goal
@@ -40,27 +40,21 @@ note-requires g c =
       c.visit-times.ensures.within,
     )
 
-pub wait_round-requires : goal.wait_round-requires
-wait_round-requires g c =
-    let long = length-set c.loop-fired.marks c.in-Some.v 0 in
-    record {
-      bytes = omega arith;
-      room = omega (arith, c.in-Some.ensures.room, c.loop-fired.invariant.1);
-      queued = going_popped (g.B.Board.shape c.args.board.now) (at c.args.heights.now) c.args.counts.now c.loop-fired.counts c.loop-fired.heights (waits c.loop-fired.list) (waits c.pop.new.self) c.loop-fired.marks
-          c.loop-fired.fired c.args.limit c.in-Some.v (omega arith) c.in-Some.ensures.popped c.loop-fired.invariant.0;
-    }
-
 pub loop-fired-smaller-then-times-gt0 : goal.loop-fired-smaller-then-times-gt0
 loop-fired-smaller-then-times-gt0 g c =
     falls_fire c.args.limit c.loop-fired.fired (g.B.Board.shape c.args.board.now).sites c.visit-times.result (length (waits c.loop-fired.list)) (length (waits c.wait_round.new.list))
     c.if-times-gt0.true (omega (arith, c.visit-times.ensures.within))
-    (queued_length (g.B.Board.shape c.args.board.now).sites (waits c.wait_round.new.list) c.wait_round.new.marks c.wait_round.ensures.round.queued)
+    (queued_length (λ v. v) (g.B.Board.shape c.args.board.now).sites (waits c.wait_round.new.list) c.wait_round.new.marks (c.wait_round.ensures.queued (omega (arith, length-set c.loop-fired.marks c.in-Some.v 0)) (omega (arith, c.in-Some.ensures.room, c.loop-fired.invariant.1)) (λ p. omega arith)
+    (going_popped (g.B.Board.shape c.args.board.now) (at c.args.heights.now) c.args.counts.now c.loop-fired.counts c.loop-fired.heights (waits c.loop-fired.list) (waits c.pop.new.self) c.loop-fired.marks
+    c.loop-fired.fired c.args.limit c.in-Some.v (omega arith) c.in-Some.ensures.popped c.loop-fired.invariant.0).queued))
 
 pub loop-fired-preserved-then-times-gt0 : goal.loop-fired-preserved-then-times-gt0
 loop-fired-preserved-then-times-gt0 g c = (
   going_fire (g.B.Board.shape c.args.board.now) (at c.args.heights.now) c.args.counts.now c.loop-fired.counts c.loop-fired.heights (waits c.loop-fired.list) (waits c.pop.new.self) c.loop-fired.marks
       c.loop-fired.fired c.args.limit c.in-Some.v c.visit-times.new.heights c.note.new.counts (waits c.wait_round.new.list) c.wait_round.new.marks c.visit-times.result
-      c.in-Some.ensures.popped c.loop-fired.invariant.0 c.loop-fired-test.true c.if-times-gt0.true c.visit-times.ensures c.note.ensures c.wait_round.ensures.round,
+      (omega arith) c.in-Some.ensures.popped c.loop-fired.invariant.0 c.loop-fired-test.true c.if-times-gt0.true c.visit-times.ensures c.note.ensures c.wait_round.ensures.turned (c.wait_round.ensures.queued (omega (arith, length-set c.loop-fired.marks c.in-Some.v 0)) (omega (arith, c.in-Some.ensures.room, c.loop-fired.invariant.1)) (λ p. omega arith)
+      (going_popped (g.B.Board.shape c.args.board.now) (at c.args.heights.now) c.args.counts.now c.loop-fired.counts c.loop-fired.heights (waits c.loop-fired.list) (waits c.pop.new.self) c.loop-fired.marks
+      c.loop-fired.fired c.args.limit c.in-Some.v (omega arith) c.in-Some.ensures.popped c.loop-fired.invariant.0).queued),
   c.wait_round.ensures.room ∙ c.in-Some.ensures.room ∙ c.loop-fired.invariant.1,
 )
 
