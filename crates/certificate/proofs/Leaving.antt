@@ -1,6 +1,6 @@
 -- What one look does to the set, and what is left at the end.
 use Rattle.std.proofs.Common.{◌≡◌, ℕ, ◌+◌, ◌*◌, ◌<◌, ◌≤◌, Bool, true, false, cond, ltb, ◌⊎◌, List, [], ◌∷◌, length, set, Some, None, MatchBool, Option, nat_lt, sym, refl, ap, ◌∙◌, subst, inl, inr, mul-le-mul_right, arith, length-set}
-use Rattle.std.proofs.lemmas.Bool.{cases_lt, cases_eq, cond-true, cond-false, lt-ltb, le-ltb, ltb-true}
+use Rattle.std.proofs.lemmas.Bool.{cases_Bool, cases_lt, cases_eq, cond-true, cond-false, lt-ltb, le-ltb, ltb-true}
 use Rattle.board.specs.Shape.{Shape, Sound, Least, sum_below}
 use Rattle.board.specs.Sums.{sum_suc, sum_same, sum_skip, sum_more}
 use Rattle.board.specs.Walks.{linked_on, deg_is, deg_le}
@@ -9,9 +9,15 @@ use Rattle.firing.proofs.Sums.{sum_jump}
 use Rattle.firing.proofs.Sets.{cond_le, into_le, into_same, into_most}
 use Rattle.firing.proofs.Stands.{plain_heights}
 use Rattle.settling.specs.Searches.{mark, occurs}
-use Rattle.settling.proofs.Queues.{mark_here, mark_there, queued_pop, queued_length, popped_on}
-use Rattle.certificate.specs.Sets.{marked, Awaits, Narrowing, looks, WokenRound, Entered, LowestMarked, LowestBack}
-use Rattle.certificate.proofs.Waking.{awaits_set}
+use Rattle.settling.specs.Waits.{Turned}
+use Rattle.settling.proofs.Queues.{mark_here, mark_there, queued_pop, queued_set, queued_length, popped_on}
+use Rattle.settling.proofs.Waited.{turned_not}
+use Rattle.certificate.specs.Sets.{marked, Awaits, Narrowing, LowestMarked, LowestBack}
+use Rattle.certificate.proofs.Entering.{Entered}
+
+-- looks that are left at most: each site of the set may have every site looked at again as it leaves
+abbrev pub looks : ℕ → List ℕ → List ℕ → ℕ
+looks n es fs = sum_below n (λ u. cond (marked fs u) 1 0) * (n + 1) + length es
 
 pub marked_if : (fs : List ℕ) (u : ℕ) → 1 ≤ mark fs u → marked fs u ≡ true
 marked_if fs u l = lt-ltb 0 (mark fs u) l
@@ -79,22 +85,19 @@ module _ {b : Shape} (ok : Sound b) (fs : List ℕ) (v : ℕ) where
         deg_le ok v,
       )
 
--- the comparison of numbers is that of the definitions
-pub compared : {b : Shape} → Sound b → (h : ℕ → ℕ) (S : ℕ → Bool) (v k : ℕ) → k ≡ links_into b S v → MatchBool (nat_lt (h v) k) (Lower b h S v) (Lower b h S v → ⊥)
-compared {b} ok h S v k e = elim (cases_lt (h v) k) [
-  | inl l ↦ rw (lt-ltb (h v) k l) ((plain_heights b ok h S v).0.1 (omega arith))
-  | inr l ↦ rw (le-ltb (h v) k l) (λ p. omega (arith, (plain_heights b ok h S v).0.0 p))
-]
+-- v was the first that waited, and is looked at
+module _ {b : Shape} (ok : Sound b) (w h : ℕ → ℕ) (v : ℕ) (ws es fs : List ℕ) (popped : ws ≡ v ∷ es) (long : b.sites ≤ length fs) (kept : Narrowing b w h ws fs) where
+  n : Narrowing b w h (v ∷ es) fs
+  n = subst (λ q. Narrowing b w h q fs) popped kept
 
-module _ (b : Shape) (v : ℕ) (es fs : List ℕ) (long : b.sites ≤ length fs) (q : Awaits b.sites (v ∷ es) fs) where
   was : (v < b.sites) × (mark fs v ≡ 1)
-  was = popped_on (λ u. u) b.sites v es fs q
+  was = popped_on (λ u. u) b.sites v es fs n.queued
 
   pub look_on : v < b.sites
   look_on = was.0
 
-  pub look_popped : Awaits b.sites es (set fs v 2)
-  look_popped = queued_pop (λ u. u) b.sites v es fs long q
+  look_popped : Awaits b.sites es (set fs v 2)
+  look_popped = queued_pop (λ u. u) b.sites v es fs long n.queued
 
   here_seen : mark (set fs v 2) v ≡ 2
   here_seen = mark_here fs v 2 v (omega (arith, was.0)) refl
@@ -105,8 +108,8 @@ module _ (b : Shape) (v : ℕ) (es fs : List ℕ) (long : b.sites ≤ length fs)
   there_gone : (u : ℕ) → (u ≡ v → ⊥) → mark (set (set fs v 2) v 0) u ≡ mark fs u
   there_gone u apart = mark_there (set fs v 2) v 0 u apart ∙ mark_there fs v 2 u apart
 
-  pub look_gone : Awaits b.sites es (set (set fs v 2) v 0)
-  look_gone = awaits_set b.sites v 0 es (set fs v 2) (omega (arith, length-set fs v 2)) was.0 (λ e. omega (arith, here_seen)) (λ e. omega arith) (omega arith) look_popped
+  look_gone : Awaits b.sites es (set (set fs v 2) v 0)
+  look_gone = queued_set (λ u. u) b.sites v 0 es (set fs v 2) (omega (arith, length-set fs v 2)) was.0 (λ e. omega (arith, here_seen)) (λ e. omega arith) (omega arith) look_popped
 
   -- a site that is looked at stays in the set for now
   same_seen : (u : ℕ) → marked (set fs v 2) u ≡ marked fs u
@@ -115,33 +118,36 @@ module _ (b : Shape) (v : ℕ) (es fs : List ℕ) (long : b.sites ≤ length fs)
     | inr apart ↦ ap (ltb 0) (mark_there fs v 2 u apart)
   ]
 
-  same_lower : (h : ℕ → ℕ) (u : ℕ) → links_into b (marked (set fs v 2)) u ≡ links_into b (marked fs) u
-  same_lower h u = into_same b (marked (set fs v 2)) (marked fs) (λ x l. same_seen x) u
+  same_into : (u : ℕ) → links_into b (marked (set fs v 2)) u ≡ links_into b (marked fs) u
+  same_into u = into_same b (marked (set fs v 2)) (marked fs) (λ x l. same_seen x) u
 
   -- v is lower than its links into the set
-  pub look_stays : (w h : ℕ → ℕ) → Lower b h (marked (set fs v 2)) v → Narrowing b w h (v ∷ es) fs → Narrowing b w h es (set fs v 2)
-  look_stays w h low n = record {
+  pub look_stays : h v < links_into b (marked (set fs v 2)) v → Narrowing b w h es (set fs v 2)
+  look_stays low = record {
     queued = look_popped;
     fired = λ u l m. n.fired u l (marked_is fs u (sym (same_seen u) ∙ marked_if (set fs v 2) u m));
     lower = λ u l two. elim (cases_eq u v) [
-      | inl same ↦ subst (λ x. Lower b h (marked (set fs v 2)) x) (sym same) low
-      | inr apart ↦ omega (arith, n.lower u l (sym (mark_there fs v 2 u apart) ∙ two), same_lower h u)
+      | inl same ↦ subst (λ x. Lower b h (marked (set fs v 2)) x) (sym same) ((plain_heights b ok h (marked (set fs v 2)) v).0.1 low)
+      | inr apart ↦ omega (arith, n.lower u l (sym (mark_there fs v 2 u apart) ∙ two), same_into u)
     ];
     covers = λ S takes u l e. same_seen u ∙ n.covers S takes u l e;
   }
 
-  pub stays_less : looks b.sites es (set fs v 2) < looks b.sites (v ∷ es) fs
+  pub stays_less : looks b.sites es (set fs v 2) < looks b.sites ws fs
   stays_less =
       let same = sum_same b.sites (λ u. cond (marked (set fs v 2) u) 1 0) (λ u. cond (marked fs u) 1 0) (λ u l. ap (λ s. cond s 1 0) (same_seen u)) in
-      omega (arith, ap (λ k. k * (b.sites + 1)) same)
+      omega (arith, ap length popped, ap (λ k. k * (b.sites + 1)) same)
 
   -- v leaves, and its neighbours wait again
-  module _ (es'' fs'' : List ℕ) (round : WokenRound b v (set (set fs v 2) v 0) es'' fs'') where
+  module _ (es'' fs'' : List ℕ) (keeps : Awaits b.sites es (set (set fs v 2) v 0) → Awaits b.sites es'' fs'') (t : Turned (λ u. 0 < b.m v u) 2 (set (set fs v 2) v 0) fs'') where
+    after : Awaits b.sites es'' fs''
+    after = keeps look_gone
+
     up : (u : ℕ) → 1 ≤ mark (set (set fs v 2) v 0) u → 1 ≤ mark fs'' u
-    up u l = elim (round.again u) [ inl e ↦ omega arith | inr e ↦ omega arith ]
+    up u l = elim (t.only u) [ inl e ↦ omega arith | inr e ↦ omega arith ]
 
     down : (u : ℕ) → 1 ≤ mark fs'' u → 1 ≤ mark (set (set fs v 2) v 0) u
-    down u l = elim (round.again u) [ inl e ↦ omega arith | inr e ↦ omega arith ]
+    down u l = elim (t.only u) [ inl e ↦ omega arith | inr e ↦ omega arith ]
 
     other : (u : ℕ) → 1 ≤ mark fs'' u → u ≡ v → ⊥
     other u l same = omega (arith, down u l, ap (mark (set (set fs v 2) v 0)) same, here_gone)
@@ -153,25 +159,25 @@ module _ (b : Shape) (v : ℕ) (es fs : List ℕ) (long : b.sites ≤ length fs)
     stay u apart = marked_alike fs'' fs u (left u) (λ l. up u (omega (arith, there_gone u apart)))
 
     -- whoever has no link to v keeps its links into the set
-    kept_into : Sound b → (u : ℕ) → b.m v u ≡ 0 → links_into b (marked fs'') u ≡ links_into b (marked fs) u
-    kept_into ok u none = sum_same b.sites (λ x. cond (marked fs'' x) (b.m u x) 0) (λ x. cond (marked fs x) (b.m u x) 0) (λ x l. elim (cases_eq x v) [
+    kept_into : (u : ℕ) → b.m v u ≡ 0 → links_into b (marked fs'') u ≡ links_into b (marked fs) u
+    kept_into u none = sum_same b.sites (λ x. cond (marked fs'' x) (b.m u x) 0) (λ x. cond (marked fs x) (b.m u x) 0) (λ x l. elim (cases_eq x v) [
       | inl same ↦ let nil : b.m u x ≡ 0 = ap (b.m u) same ∙ ok.symmetric u v ∙ none in none_into ok fs'' u x nil ∙ sym (none_into ok fs u x nil)
       | inr apart ↦ ap (λ s. cond s (b.m u x) 0) (stay x apart)
     ])
 
-    pub look_leaves : Sound b → (w h : ℕ → ℕ) → (Lower b h (marked (set fs v 2)) v → ⊥) → Narrowing b w h (v ∷ es) fs → Narrowing b w h es'' fs''
-    look_leaves ok w h high n = record {
-      queued = round.queued;
+    pub look_leaves : links_into b (marked (set fs v 2)) v ≤ h v → Narrowing b w h es'' fs''
+    look_leaves high = record {
+      queued = after;
       fired = λ u l m. n.fired u l (left u m);
       lower = λ u l two. elim (cases_lt 0 (b.m v u)) [
-        | inl m ↦ absurd (round.linked u m two)
-        | inr m ↦ omega (arith, n.lower u l (before u two), kept_into ok u (omega arith))
+        | inl m ↦ absurd (turned_not (λ k. 0 < b.m v k) 2 (set (set fs v 2) v 0) fs'' (λ e. omega arith) t u m (omega (arith, length-set fs v 2, length-set (set fs v 2) v 0)) two)
+        | inr m ↦ omega (arith, n.lower u l (before u two), kept_into u (omega arith))
       ];
       covers = λ S takes u l e. marked_if fs'' u (up u (omega (arith, there_gone u (λ same. leaves S takes u l e same), marked_is fs u (n.covers S takes u l e))));
     }
       where
         before : (u : ℕ) → mark fs'' u ≡ 2 → mark fs u ≡ 2
-        before u two = elim (round.again u) [
+        before u two = elim (t.only u) [
           | inl e ↦ omega (arith, there_gone u (other u (omega arith)))
           | inr e ↦ absurd (omega arith)
         ]
@@ -179,20 +185,16 @@ module _ (b : Shape) (v : ℕ) (es fs : List ℕ) (long : b.sites ≤ length fs)
         -- no set that can be taken back has v
         leaves : (S : ℕ → Bool) → TakesBack b w h S → (u : ℕ) → u < b.sites → S u ≡ true → u ≡ v → ⊥
         leaves S takes u l e same =
-            let at = (takes v was.0 (subst (λ x. S x ≡ true) same e)).1 in
-            high (omega (arith, into_le b S (marked fs) (λ x l' e'. n.covers S takes x l' e') v, same_lower h v))
+            let low = (plain_heights b ok h S v).0.0 (takes v was.0 (subst (λ x. S x ≡ true) same e)).1 in
+            omega (arith, low, into_le b S (marked fs) (λ x l' e'. n.covers S takes x l' e') v, same_into v)
 
-    pub leaves_less : looks b.sites es'' fs'' < looks b.sites (v ∷ es) fs
+    pub leaves_less : looks b.sites es'' fs'' < looks b.sites ws fs
     leaves_less =
         let out : ◌≡◌ {A = ℕ} (cond (marked fs'' v) 1 0) 0 = cond-false (marked fs'' v) 1 0 (marked_not fs'' v (elim (cases_lt 0 (mark fs'' v)) [ inl l ↦ absurd (other v l refl) | inr l ↦ omega arith ])) in
         let in_set : ◌≡◌ {A = ℕ} (cond (marked fs v) 1 0) 1 = cond-true (marked fs v) 1 0 (marked_if fs v (omega (arith, was.1))) in
         let fewer = sum_jump b.sites (λ u. cond (marked fs'' u) 1 0) (λ u. cond (marked fs u) 1 0) v 1 was.0 (omega arith)
         (λ u l. cond_le (marked fs'' u) (marked fs u) 1 (λ e. marked_if fs u (left u (marked_is fs'' u e)))) in
-        omega (arith, mul-le-mul_right (b.sites + 1) fewer, queued_length (λ u. u) b.sites es'' fs'' round.queued)
-
-either : (s : Bool) → (s ≡ true) ⊎ (s ≡ false)
-either true = inl refl
-either false = inr refl
+        omega (arith, ap length popped, mul-le-mul_right (b.sites + 1) fewer, queued_length (λ u. u) b.sites es'' fs'' after)
 
 module _ (b : Shape) (w h : ℕ → ℕ) where
   pub narrowing_begins : (es fs : List ℕ) → Entered b.sites w es fs → Narrowing b w h es fs
@@ -220,7 +222,7 @@ module _ (b : Shape) (w h : ℕ → ℕ) where
   }
 
   pub lowest_left : (fs : List ℕ) (r : Option ℕ) → Largest b w h (marked fs) → LowestMarked b.sites fs r → LowestBack b w h r
-  lowest_left fs None large low = λ S takes v l. elim (either (S v)) [
+  lowest_left fs None large low = λ S takes v l. elim (cases_Bool (S v)) [
     | inl t ↦ absurd (omega (arith, low v l, marked_is fs v (large.holds S takes v l t)))
     | inr f ↦ f
   ]

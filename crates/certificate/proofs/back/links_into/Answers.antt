@@ -11,8 +11,8 @@ pub overflow_add-sum : goal.overflow_add-sum
 overflow_add-sum g c =
     grind (arith, common_steps, into_fits (g.met.B.Board.sound c.args.board.now) c.args.bytes.now c.args.v c.loop-u.u-iterator.from c.in-Some.u c.loop-u.sum)
 
-pub loop-u-preserved-then-bytes-u-gt0 : goal.loop-u-preserved-then-bytes-u-gt0
-loop-u-preserved-then-bytes-u-gt0 g c =
+pub loop-u-preserved-then-bytes-u-ne-OUT : goal.loop-u-preserved-then-bytes-u-ne-OUT
+loop-u-preserved-then-bytes-u-ne-OUT g c =
     grind (arith, common_steps, into_in (g.met.B.Board.sound c.args.board.now) c.args.bytes.now c.args.v)
 
 pub loop-u-preserved : goal.loop-u-preserved
