@@ -2,7 +2,7 @@
 ghost use Rattle.std.specs.Prelude.{◌≡◌, ◌<◌, ◌≤◌, length, MatchBool, IfOk, IfErr};
 ghost use Rattle.refusal.specs.declared.Part.TheVariants.{Certificate as the_certificate};
 ghost use Rattle.refusal.specs.Table.{Refused};
-ghost use Rattle.certificate.specs.Fits.{Within, Low};
+ghost use Rattle.certificate.specs.Fits.{Within, Fit};
 ghost use Rattle.certificate.specs.Verdicts.{Above, certificate_checks};
 
 use board::Board;
@@ -21,8 +21,7 @@ pub(crate) struct Certificate<'a, B: Board> {
     pub(crate) start: &'a [u64],
     pub(crate) counts: &'a [u64],
     pub(crate) end: &'a [u64],
-    ghost sized: { (length start.now ≡ (B.Board.shape board.now).sites) × (length counts.now ≡ (B.Board.shape board.now).sites) × (length end.now ≡ (B.Board.shape board.now).sites) },
-    ghost low: { Low start.now counts.now end.now },
+    ghost fit: { Fit (B.Board.shape board.now).sites start.now counts.now end.now },
 }
 
 // Whether no entry is above `limit`.

@@ -13,12 +13,12 @@ pub overflow_mul-sum : goal.overflow_mul-sum
 overflow_mul-sum g c =
     omega (
       arith,
-      sent_low c.from.result (at c.args.self.now.counts.now c.in-Some.u) (omega (arith, m_le (g.met.B.Board.sound c.args.self.now.board.now) c.in-Some.u c.args.v)) (c.args.self.now.low.1 c.in-Some.u),
+      sent_low c.from.result (at c.args.self.now.counts.now c.in-Some.u) (omega (arith, m_le (g.met.B.Board.sound c.args.self.now.board.now) c.in-Some.u c.args.v)) (c.args.self.now.fit.low.1 c.in-Some.u),
     )
 
 pub overflow_add-sum : goal.overflow_add-sum
 overflow_add-sum g c =
-    grind (arith, common_steps, inflow_fits (g.met.B.Board.sound c.args.self.now.board.now) (at c.args.self.now.counts.now) c.args.v 1000000000000 c.loop-u.u-iterator.from c.in-Some.u c.loop-u.sum c.args.self.now.low.1)
+    grind (arith, common_steps, inflow_fits (g.met.B.Board.sound c.args.self.now.board.now) (at c.args.self.now.counts.now) c.args.v 1000000000000 c.loop-u.u-iterator.from c.in-Some.u c.loop-u.sum c.args.self.now.fit.low.1)
 
 pub loop-u-preserved : goal.loop-u-preserved
 loop-u-preserved g c =
@@ -30,5 +30,5 @@ returns g c =
     let w = at c.args.self.now.counts.now in
     record {
       is = grind (arith, common_steps, inflow_all ok w c.args.v);
-      fits = grind (arith, common_steps, inflow_all ok w c.args.v, inflow_low ok w c.args.v 1000000000000 c.args.self.now.low.1);
+      fits = grind (arith, common_steps, inflow_all ok w c.args.v, inflow_low ok w c.args.v 1000000000000 c.args.self.now.fit.low.1);
     }

@@ -9,13 +9,13 @@ pub overflow_mul-given : goal.overflow_mul-given
 overflow_mul-given g c =
     omega (
       arith,
-      sent_low c.from.result (at c.args.self.now.counts.now c.args.v) (omega (arith, deg_le (g.met.B.Board.sound c.args.self.now.board.now) c.args.v)) (c.args.self.now.low.1 c.args.v),
+      sent_low c.from.result (at c.args.self.now.counts.now c.args.v) (omega (arith, deg_le (g.met.B.Board.sound c.args.self.now.board.now) c.args.v)) (c.args.self.now.fit.low.1 c.args.v),
     )
 
 pub overflow_add-result : goal.overflow_add-result
 overflow_add-result g c =
     omega (
       arith,
-      c.args.self.now.low.2 c.args.v,
-      sent_low c.from.result (at c.args.self.now.counts.now c.args.v) (omega (arith, deg_le (g.met.B.Board.sound c.args.self.now.board.now) c.args.v)) (c.args.self.now.low.1 c.args.v),
+      c.args.self.now.fit.low.2 c.args.v,
+      sent_low c.from.result (at c.args.self.now.counts.now c.args.v) (omega (arith, deg_le (g.met.B.Board.sound c.args.self.now.board.now) c.args.v)) (c.args.self.now.fit.low.1 c.args.v),
     )

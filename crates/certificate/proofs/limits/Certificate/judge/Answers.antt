@@ -7,5 +7,5 @@ use Rattle.certificate.proofs.limits.Certificate.judge.Goals as goal
 pub returns : goal.returns
 returns g c =
     let b = g.B.Board.shape c.args.self.now.board.now in
-    accepted b c.args.self.now.start.now c.args.self.now.counts.now c.args.self.now.end.now (length c.args.waiting.now) (length c.args.bytes.now) (record { fit = record { start = c.args.self.now.sized.0; counts = c.args.self.now.sized.1; end = c.args.self.now.sized.2; low = c.args.self.now.low }; list = c.requires.waiting; marks = c.requires.bytes })
+    accepted b c.args.self.now.start.now c.args.self.now.counts.now c.args.self.now.end.now (length c.args.waiting.now) (length c.args.bytes.now) c.args.self.now.fit c.requires.waiting c.requires.bytes
     (subst (LowestAstray b) c.in_default.is c.in_ok-v.ensures.1) c.in_default-lowest_apart.ensures c.in_default-lowest_ready.ensures c.in_default-lowest_back.ensures

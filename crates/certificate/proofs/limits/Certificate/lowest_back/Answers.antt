@@ -8,4 +8,4 @@ use Rattle.certificate.proofs.limits.Certificate.lowest_back.Goals as goal
 pub returns : goal.returns
 returns g c =
     lowest_left (g.B.Board.shape c.args.self.now.board.now) (at c.args.self.now.counts.now) (at c.args.self.now.end.now) c.narrow.new.bytes c.lowest_marked.result c.narrow.ensures
-    (subst (λ n. LowestMarked n c.narrow.new.bytes c.lowest_marked.result) c.args.self.now.sized.1 c.lowest_marked.ensures)
+    (subst (λ n. LowestMarked n c.narrow.new.bytes c.lowest_marked.result) c.args.self.now.fit.counts c.lowest_marked.ensures)

@@ -39,8 +39,8 @@ bounds-bytes-v-in-Some g c =
 pub loop-v-smaller : goal.loop-v-smaller
 loop-v-smaller g c =
     leaves_less (g.met.B.Board.sound c.args.self.now.board.now) _ _ _ _ _ _ c.in-Some.ensures.popped (omega arith) c.loop-v.invariant.0 _ _
-        (c.wait_round.ensures.queued (omega (arith, length-set c.loop-v.bytes c.in-Some.v 2, length-set (set c.loop-v.bytes c.in-Some.v 2) c.in-Some.v 0)) (omega arith) (λ e. omega arith))
-        c.wait_round.ensures.turned
+    (c.wait_round.ensures.queued (omega (arith, length-set c.loop-v.bytes c.in-Some.v 2, length-set (set c.loop-v.bytes c.in-Some.v 2) c.in-Some.v 0)) (omega arith) (λ e. omega arith))
+    c.wait_round.ensures.turned
 
 pub loop-v-preserved : goal.loop-v-preserved
 loop-v-preserved g c = (
