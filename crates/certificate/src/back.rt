@@ -12,11 +12,11 @@ use board::neighbours::Neighbours;
 use settling::waits::{wait, wait_round};
 use waiting::WaitingList;
 
-// Marks are bytes, since the caller lends them; that of a site which waits to be looked at, 1, is of `wait`.
-// A site that is not in the set.
+// The mark of a site that is not in the set. Marks are numbers, since they stand in bytes that the caller lends; 1, of
+// a site that waits to be looked at, is written by `wait`.
 const OUT: u8 = 0;
 
-// A site of the set that has been looked at.
+// The mark of a site of the set that has been looked at.
 const SEEN: u8 = 2;
 
 // The links of `v` into the set.
