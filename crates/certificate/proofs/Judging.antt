@@ -1,8 +1,6 @@
 -- The verdict on a certificate, from what each check found.
 use Rattle.std.proofs.Common.{◌≡◌, ℕ, ◌<◌, ◌≤◌, Bool, true, false, not, ◌↔◌, List, length, Ok, Err, Result, sym, refl, ap, ◌∙◌, inl, inr, arith}
 use Rattle.std.proofs.lemmas.Bool.{both_ways, true≢false}
-use Rattle.refusal.specs.declared.Row.TheVariants as row
-use Rattle.refusal.specs.declared.Part.TheVariants as part
 use Rattle.refusal.specs.declared.Refusal.{Refusal}
 use Rattle.refusal.specs.Table.{First}
 use Rattle.board.specs.Shape.{Shape, Sound}
@@ -19,12 +17,9 @@ use Rattle.certificate.proofs.Limited.{not_above}
 use Rattle.certificate.specs.Fits.{Low, Fit}
 use Rattle.certificate.specs.Verdicts.{Unfit, OverLimit, Early, Verdict, LeastCounts, ByLeastCounts, certificate_checks}
 
-room_for : (n c w h slots bytes : ℕ) → c ≡ n → w ≡ n → h ≡ n → n ≤ slots → n ≤ bytes → Unfit n c w h slots bytes → ⊥
-room_for n c w h slots bytes ec ew eh ls lb (inl p) = p ec
-room_for n c w h slots bytes ec ew eh ls lb (inr (inl p)) = p ew
-room_for n c w h slots bytes ec ew eh ls lb (inr (inr (inl p))) = p eh
-room_for n c w h slots bytes ec ew eh ls lb (inr (inr (inr (inl p)))) = omega arith
-room_for n c w h slots bytes ec ew eh ls lb (inr (inr (inr (inr p)))) = omega arith
+-- there is room
+room_for : (n : ℕ) (c w h : List ℕ) (slots bytes : ℕ) → Fit n c w h → n ≤ slots → n ≤ bytes → Unfit n (length c) (length w) (length h) slots bytes → ⊥
+room_for n c w h slots bytes fit list marks u = grind arith
 
 low_enough : (c w h : List ℕ) → Low c w h → OverLimit c w h → ⊥
 low_enough c w h low (inl p) = not_above 1000000 c low.0 p
@@ -36,7 +31,7 @@ pub accepted : (b : Shape) (c w h : List ℕ) (slots bytes : ℕ) → Fit b.site
     → ((S : ℕ → Bool) → TakesBack b (at w) (at h) S → Empty b S) → Verdict b c w h slots bytes (Ok tt)
 accepted b c w h slots bytes fit list marks every follows still none = (
   (
-    λ p m. room_for b.sites (length c) (length w) (length h) slots bytes fit.start fit.counts fit.end list marks m.1,
+    λ p m. room_for b.sites c w h slots bytes fit list marks m.1,
     (
       λ p m. low_enough c w h fit.low m.1,
       (

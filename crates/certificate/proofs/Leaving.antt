@@ -1,5 +1,5 @@
 -- What one look does to the set, and what is left at the end.
-use Rattle.std.proofs.Common.{◌≡◌, ℕ, ◌+◌, ◌*◌, ◌<◌, ◌≤◌, Bool, true, false, cond, ltb, ◌⊎◌, List, [], ◌∷◌, length, set, Some, None, MatchBool, Option, nat_lt, sym, refl, ap, ◌∙◌, subst, inl, inr, mul-le-mul_right, arith, length-set}
+use Rattle.std.proofs.Common.{◌≡◌, ℕ, ◌+◌, ◌*◌, ◌<◌, ◌≤◌, Bool, true, false, cond, ltb, List, [], ◌∷◌, length, set, Some, None, Option, sym, refl, ap, ◌∙◌, subst, inl, inr, mul-le-mul_right, arith, length-set}
 use Rattle.std.proofs.lemmas.Bool.{cases_Bool, cases_lt, cases_eq, cond-true, cond-false, lt-ltb, le-ltb, ltb-true}
 use Rattle.board.specs.Shape.{Shape, Sound, Least, sum_below}
 use Rattle.board.specs.Sums.{sum_suc, sum_same, sum_skip, sum_more}
@@ -54,7 +54,7 @@ module _ {b : Shape} (ok : Sound b) (fs : List ℕ) (v : ℕ) where
     | inr l ↦ cond-false (marked fs u) (b.m v u) 0 (marked_not fs u (omega arith))
   ]
 
-  pub into_more : (j u sum : ℕ) → IntoBelow b fs v j sum → Least (b.m v) j u → IntoBelow b fs v (u + 1) (sum + cond (marked fs u) (b.m v u) 0)
+  into_more : (j u sum : ℕ) → IntoBelow b fs v j sum → Least (b.m v) j u → IntoBelow b fs v (u + 1) (sum + cond (marked fs u) (b.m v u) 0)
   into_more j u sum i h = record {
     on = omega (arith, linked_on ok v u h.linked);
     is = omega (arith, i.is, sum_suc u into, sum_skip j u into h.from (λ k f l. none_into k (h.before k f l)));
@@ -85,8 +85,10 @@ module _ {b : Shape} (ok : Sound b) (fs : List ℕ) (v : ℕ) where
         deg_le ok v,
       )
 
+pub ruleset into_walk = (into_none, into_in, into_out, into_all, into_fits)
+
 -- v was the first that waited, and is looked at
-module _ {b : Shape} (ok : Sound b) (w h : ℕ → ℕ) (v : ℕ) (ws es fs : List ℕ) (popped : ws ≡ v ∷ es) (long : b.sites ≤ length fs) (kept : Narrowing b w h ws fs) where
+module _ {b : Shape} (ok : Sound b) {w h : ℕ → ℕ} {v : ℕ} {ws es fs : List ℕ} (popped : ws ≡ v ∷ es) (long : b.sites ≤ length fs) (kept : Narrowing b w h ws fs) where
   n : Narrowing b w h (v ∷ es) fs
   n = subst (λ q. Narrowing b w h q fs) popped kept
 
@@ -139,7 +141,7 @@ module _ {b : Shape} (ok : Sound b) (w h : ℕ → ℕ) (v : ℕ) (ws es fs : Li
       omega (arith, ap length popped, ap (λ k. k * (b.sites + 1)) same)
 
   -- v leaves, and its neighbours wait again
-  module _ (es'' fs'' : List ℕ) (keeps : Awaits b.sites es (set (set fs v 2) v 0) → Awaits b.sites es'' fs'') (t : Turned (λ u. 0 < b.m v u) 2 (set (set fs v 2) v 0) fs'') where
+  module _ {es'' fs'' : List ℕ} (keeps : Awaits b.sites es (set (set fs v 2) v 0) → Awaits b.sites es'' fs'') (t : Turned (λ u. 0 < b.m v u) 2 (set (set fs v 2) v 0) fs'') where
     after : Awaits b.sites es'' fs''
     after = keeps look_gone
 

@@ -1,7 +1,7 @@
 -- What is left to show of `comes_in`.
-use Rattle.std.proofs.Common.{◌≡◌, ◌+◌, ◌*◌, refl, arith}
+use Rattle.std.proofs.Common.{arith}
 use Rattle.std.proofs.lemmas.Grind.{common_steps}
-use Rattle.board.specs.Walks.{linked_on, m_le}
+use Rattle.board.specs.Walks.{m_le}
 use Rattle.firing.specs.Firing.{at}
 use Rattle.certificate.proofs.Inflows.{inflow_none, inflow_more, inflow_all, inflow_low, inflow_fits, sent_low}
 use Rattle.certificate.proofs.limits.Certificate.comes_in.Goals as goal

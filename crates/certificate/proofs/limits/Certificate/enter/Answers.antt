@@ -1,5 +1,5 @@
 -- What is left to show of `enter`.
-use Rattle.std.proofs.Common.{◌+◌, ◌<◌, length, ◌∙◌, arith, length-set}
+use Rattle.std.proofs.Common.{◌+◌, ◌∙◌, arith, length-set}
 use Rattle.certificate.proofs.Entering.{entered_skip, entered_more}
 use Rattle.certificate.proofs.limits.Certificate.enter.Goals as goal
 use Rattle.certificate.proofs.limits.Certificate.enter.Goals.{then-count-gt0, else-count-gt0}
