@@ -1,8 +1,6 @@
 -- The verdict on a certificate, from what each check found.
 use Rattle.std.proofs.Common.{◌≡◌, ℕ, ◌<◌, ◌≤◌, Bool, true, false, not, ◌↔◌, List, length, Ok, Err, Result, sym, refl, ap, ◌∙◌, inl, inr, arith}
 use Rattle.std.proofs.lemmas.Bool.{both_ways, true≢false}
-use Rattle.refusal.specs.declared.Row.TheVariants as row
-use Rattle.refusal.specs.declared.Part.TheVariants as part
 use Rattle.refusal.specs.declared.Refusal.{Refusal}
 use Rattle.refusal.specs.Table.{First}
 use Rattle.board.specs.Shape.{Shape, Sound}
@@ -16,23 +14,12 @@ use Rattle.firing.proofs.Reach.{within, within_reaches, reaches_near}
 use Rattle.firing.proofs.Stands.{reach_linked, certificate_law}
 use Rattle.settling.specs.Reaching.{Astray}
 use Rattle.certificate.proofs.Limited.{not_above}
-use Rattle.certificate.specs.Fits.{Low, Roomy, Checked}
+use Rattle.certificate.specs.Fits.{Low, Fit}
 use Rattle.certificate.specs.Verdicts.{Unfit, OverLimit, Early, Verdict, LeastCounts, ByLeastCounts, certificate_checks}
 
-room_for : (n c w h slots bytes : ℕ) → c ≡ n → w ≡ n → h ≡ n → n ≤ slots → n ≤ bytes → Unfit n c w h slots bytes → ⊥
-room_for n c w h slots bytes ec ew eh ls lb (inl p) = p ec
-room_for n c w h slots bytes ec ew eh ls lb (inr (inl p)) = p ew
-room_for n c w h slots bytes ec ew eh ls lb (inr (inr (inl p))) = p eh
-room_for n c w h slots bytes ec ew eh ls lb (inr (inr (inr (inl p)))) = omega arith
-room_for n c w h slots bytes ec ew eh ls lb (inr (inr (inr (inr p)))) = omega arith
-
--- a limit refuses
-pub over : (b : Shape) (c w h : List ℕ) (slots bytes : ℕ) (e : Refusal) → length c ≡ b.sites → length w ≡ b.sites → length h ≡ b.sites → b.sites ≤ slots → b.sites ≤ bytes
-    → e.row ≡ row.Limit → e.place ≡ 0 → e.part ≡ part.Certificate → OverLimit c w h → Checked b c w h slots bytes (Err e)
-over b c w h slots bytes e ec ew eh ls lb is place from beyond = record {
-  by = inr (λ p m. room_for b.sites (length c) (length w) (length h) slots bytes ec ew eh ls lb m.1, inl (is, (place, beyond)));
-  from = from;
-}
+-- there is room
+room_for : (n : ℕ) (c w h : List ℕ) (slots bytes : ℕ) → Fit n c w h → n ≤ slots → n ≤ bytes → Unfit n (length c) (length w) (length h) slots bytes → ⊥
+room_for n c w h slots bytes fit list marks u = grind arith
 
 low_enough : (c w h : List ℕ) → Low c w h → OverLimit c w h → ⊥
 low_enough c w h low (inl p) = not_above 1000000 c low.0 p
@@ -40,13 +27,13 @@ low_enough c w h low (inr (inl p)) = not_above 1000000000000 w low.1 p
 low_enough c w h low (inr (inr p)) = not_above 1000000 h low.2 p
 
 -- no check refuses
-pub accepted : (b : Shape) (c w h : List ℕ) (slots bytes : ℕ) → Roomy b.sites c w h slots bytes → AllReach b → Follows b (at c) (at w) (at h) → Still b (at h)
+pub accepted : (b : Shape) (c w h : List ℕ) (slots bytes : ℕ) → Fit b.sites c w h → b.sites ≤ slots → b.sites ≤ bytes → AllReach b → Follows b (at c) (at w) (at h) → Still b (at h)
     → ((S : ℕ → Bool) → TakesBack b (at w) (at h) S → Empty b S) → Verdict b c w h slots bytes (Ok tt)
-accepted b c w h slots bytes fit every follows still none = (
+accepted b c w h slots bytes fit list marks every follows still none = (
   (
-    λ p m. room_for b.sites (length c) (length w) (length h) slots bytes fit.fit.start fit.fit.counts fit.fit.end fit.list fit.marks m.1,
+    λ p m. room_for b.sites c w h slots bytes fit list marks m.1,
     (
-      λ p m. low_enough c w h fit.fit.low m.1,
+      λ p m. low_enough c w h fit.low m.1,
       (
         λ p m. m.holds (every p m.on),
         (λ p m. m.holds (follows p m.on), (λ p m. still p m.on m.holds, (λ p m. both_ways (m.0 p) (none m.0 m.1.back p m.2.on) m.2.holds, tt))),

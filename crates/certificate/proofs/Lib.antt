@@ -1,6 +1,6 @@
 pub mod Limited
 pub mod Inflows
-pub mod Waking
+pub mod Entering
 pub mod Leaving
 pub mod Judging
 pub mod Deciding

@@ -1,51 +1,43 @@
 // Certificates: a start, counts and an end, judged over any board and lent memory.
 #![tactic(auto)]
 
-ghost use Rattle.std.specs.Prelude.{◌≡◌, ℕ, List, length};
+ghost use Rattle.std.specs.Prelude.{◌≡◌, ℕ, ◌≤◌, List, length};
 ghost use Rattle.refusal.specs.Table.{InOrder, rows};
 ghost use Rattle.board.specs.Shape.{Shape};
 ghost use Rattle.firing.specs.Firing.{at};
 ghost use Rattle.certificate.specs.Verdicts.{Verdict, ByLeastCounts, OneVerdict, certificate_checks};
 
-use back::lowest_back;
 use board::Board;
-use formula::lowest_apart;
-use limits::check;
+use limits::Certificate;
 use refusal::{Part, Refusal, Row};
-use refusals::refused;
 use settling::fire::lowest_ready;
 use settling::reach::reach;
 
 mod back;
 mod formula;
 mod limits;
-mod refusals;
 
-// The verdict, check by check.
-fn judge<B: Board>(
-    board: &B,
-    start: &[u64],
-    counts: &[u64],
-    end: &[u64],
-    waiting: &mut [usize],
-    bytes: &mut [u8],
-) -> Result<(), Refusal>
-    ensures { Verdict (B.Board.shape board.now) start.now counts.now end.now (length waiting.old) (length bytes.old) result }
-{
-    check(board, start, counts, end, waiting.len(), bytes.len())?;
-    if let Some(v) = reach(board, waiting, bytes, Part::Certificate)? {
-        return Err(refused(Row::NoDrain, v));
+impl<'a, B: Board> Certificate<'a, B> {
+    // The verdict.
+    fn judge(&self, waiting: &mut [usize], bytes: &mut [u8]) -> Result<(), Refusal>
+        requires waiting { (B.Board.shape self.now.board.now).sites ≤ length waiting.old }
+        requires bytes { (B.Board.shape self.now.board.now).sites ≤ length bytes.old }
+        ensures { Verdict (B.Board.shape self.now.board.now) self.now.start.now self.now.counts.now self.now.end.now (length waiting.old) (length bytes.old) result }
+    {
+        if let Some(v) = reach(self.board, waiting, bytes, Part::Certificate)? {
+            return Err(Part::Certificate.refuse_at(Row::NoDrain, v));
+        }
+        if let Some(v) = self.lowest_apart() {
+            return Err(Part::Certificate.refuse_at(Row::NotFollowing, v));
+        }
+        if let Some(v) = lowest_ready(self.board, self.end) {
+            return Err(Part::Certificate.refuse_at(Row::EndFires, v));
+        }
+        if let Some(v) = self.lowest_back(waiting, bytes) {
+            return Err(Part::Certificate.refuse_at(Row::TakenBack, v));
+        }
+        Ok(())
     }
-    if let Some(v) = lowest_apart(board, start, counts, end) {
-        return Err(refused(Row::NotFollowing, v));
-    }
-    if let Some(v) = lowest_ready(board, end) {
-        return Err(refused(Row::EndFires, v));
-    }
-    if let Some(v) = lowest_back(board, counts, end, waiting, bytes) {
-        return Err(refused(Row::TakenBack, v));
-    }
-    Ok(())
 }
 
 // Judges a certificate: accepts it exactly when the end follows from the start by the counts and is still, and no
@@ -62,7 +54,8 @@ pub fn certify<B: Board>(
     ensures verdict { Verdict (B.Board.shape board.now) start.now counts.now end.now (length waiting.old) (length bytes.old) result }
     ensures least { ByLeastCounts (B.Board.shape board.now) (at start.now) (at counts.now) (at end.now) result }
 {
-    judge(board, start, counts, end, waiting, bytes)
+    let given = Certificate::new(board, start, counts, end, waiting.len(), bytes.len())?;
+    given.judge(waiting, bytes)
 }
 
 // The rows by which `certify` refuses, in the order of its checks.
@@ -80,8 +73,6 @@ pub fn certificate_rows() -> [Row; 6]
 }
 
 // A certificate has one verdict: it is accepted or refused, and refused by one row at one place.
-pub fn verdict_is_decided() -> u8
+pub fn verdict_is_decided()
     ensures { OneVerdict }
-{
-    0
-}
+{}

@@ -1,13 +1,12 @@
--- The loop of `links_into`: the links into the set to sites below j, and what falls with each turn.
-use Rattle.std.proofs.Common.{◌≡◌, ◌-◌, ◌≤◌, cond}
-use Rattle.board.specs.Shape.{sum_below}
-use Rattle.certificate.specs.Sets.{marked}
+-- The loop of `links_into`: the links into the set to the sites that it has come by.
+use Rattle.std.proofs.Common.{◌≡◌}
+use Rattle.certificate.proofs.Leaving.{IntoBelow}
 use Rattle.certificate.proofs.back.links_into.Given as goal
 
 abbrev pub invariant-loop-u : goal.invariant-loop-u
 invariant-loop-u g l =
-    let b = g.B.Board.shape l.board in
-    (l.j ≤ b.sites) × (l.sum ≡ sum_below l.j (λ u. cond (marked l.bytes u) (b.m l.v u) 0))
-
-abbrev pub decreases-loop-u : goal.decreases-loop-u
-decreases-loop-u g l = (g.B.Board.shape l.board).sites - l.j
+    (goal.iterator-loop-u g).can_next l.u-iterator
+    × (goal.iterator-loop-u g).is_finite l.u-iterator
+    × (l.u-iterator.board.now ≡ l.board)
+    × (l.u-iterator.site ≡ l.v)
+    × IntoBelow (g.B.Board.shape l.board) l.bytes l.v l.u-iterator.from l.sum
