@@ -1,5 +1,5 @@
 -- The sum of a list, and a count over two lists, as sums over the sites.
-use Rattle.std.proofs.Common.{◌≡◌, ℕ, zero, suc, ◌+◌, ◌-◌, ◌<◌, ◌≤◌, cond, ltb, List, length, get_or, take, replicate, sum, sum_by, count_by, vec_items, refl, sym, ap, ◌∙◌, add-one, inl, inr, arith, take_all, le-ltb, lt-ltb}
+use Rattle.std.proofs.Common.{◌≡◌, ℕ, zero, suc, ◌+◌, ◌-◌, ◌≤◌, cond, ltb, List, length, get_or, take, replicate, sum, sum_by, count_by, vec_items, refl, sym, ap, ◌∙◌, add-one, inl, inr, arith, take_all, le-ltb, lt-ltb}
 use Rattle.std.specs.List.{zip}
 use Rattle.std.proofs.lemmas.List.{get_or-replicate, get_or_past, length-replicate}
 use Rattle.std.proofs.lemmas.List.Sums.{sum_by_more}

@@ -1,5 +1,5 @@
 -- What is left to show of `create`.
-use Rattle.std.proofs.Common.{◌≡◌, ℕ, ◌≤◌, List, length, None, vec_items, refl, ap, ◌∙◌, arith}
+use Rattle.std.proofs.Common.{◌≡◌, ℕ, None, vec_items, refl, ap, arith}
 use Rattle.board.specs.Shape.{sum_below}
 use Rattle.board.specs.Sums.{sum_none}
 use Rattle.firing.specs.Firing.{at}

@@ -1,5 +1,5 @@
 -- The loop of `mark_ready`: the sites below v are marked, and counted.
-use Rattle.std.proofs.Common.{◌≡◌, ℕ, ◌*◌, ◌<◌, ◌≤◌}
+use Rattle.std.proofs.Common.{◌≡◌, ℕ, ◌<◌, ◌≤◌}
 use Rattle.board.specs.Shape.{sum_below}
 use Rattle.firing.specs.Firing.{at}
 use Rattle.bench.specs.Checks.{ReadyAt}
