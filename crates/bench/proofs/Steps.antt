@@ -1,17 +1,13 @@
 -- The phases that events need and lead to, and what steps of a bench do to its totals.
-use Rattle.std.proofs.Common.{◌≡◌, ℕ, ◌+◌, ◌<◌, ◌≤◌, List, length, set, Some, None, Option, refl, ap, ◌∙◌, arith, get_or-set_other, get_or-set_same}
-use Rattle.board.specs.Shape.{Shape, sum_below}
+use Rattle.std.proofs.Common.{◌≡◌, ℕ, ◌+◌, ◌<◌, ◌≤◌, List, length, set, Some, None, Option, refl, ◌∙◌, arith, get_or-set_other, get_or-set_same}
+use Rattle.board.specs.Shape.{sum_below}
 use Rattle.firing.specs.Firing.{at}
 use Rattle.firing.proofs.Sums.{sum_point}
 use Rattle.bench.specs.declared.Phase.{Phase}
 use Rattle.bench.specs.declared.Phase.TheVariants.{Resting, Open, Shelved}
 use Rattle.bench.specs.declared.phases.Event.{Event}
-use Rattle.bench.specs.declared.phases.Event.TheVariants.{Resume, Drop, Fire, Close}
-use Rattle.refusal.specs.Table.{Passed}
-use Rattle.bench.specs.declared.GrainDrop.{GrainDrop}
+use Rattle.bench.specs.declared.phases.Event.TheVariants.{Drop, Fire, Close}
 use Rattle.bench.specs.Phases.{after}
-use Rattle.bench.specs.States.{State}
-use Rattle.bench.specs.Checks.{resume_checks, drop_checks}
 
 never : {A : Type 0} {a : A} → ◌≡◌ {A = Option A} (Some a) None → ⊥
 never e = let z : ◌≡◌ {A = ℕ} 0 1 = cc in omega arith
@@ -38,10 +34,3 @@ some_none p q e s n = never (s ∙ n)
 pub set_total : (n : ℕ) (xs : List ℕ) (v y k : ℕ) → v < n → n ≤ length xs → y ≡ at xs v + k → sum_below n (at (set xs v y)) ≡ sum_below n (at xs) + k
 set_total n xs v y k on long e =
     sum_point n (at xs) (at (set xs v y)) v k on (get_or-set_same xs v y 0 (omega arith) ∙ e) (λ u l ne. get_or-set_other xs v u y 0 ne)
-
--- an open bench takes no resume and no drop
-pub open_resumes : (s : Shape) (x : State) → x.phase ≡ Open → Passed (resume_checks s x) → ⊥
-open_resumes s x e passed = passed.1.0 0 (refl, ap (λ p. after p Resume) e)
-
-pub open_drops : (s : Shape) (x : State) (d : GrainDrop) → x.phase ≡ Open → Passed (drop_checks s x d) → ⊥
-open_drops s x d e passed = passed.1.1.1.0 0 (refl, ap (λ p. after p Drop) e)

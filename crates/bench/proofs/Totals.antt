@@ -1,5 +1,5 @@
 -- What legal firings do to the totals that a bench keeps.
-use Rattle.std.proofs.Common.{◌≡◌, ℕ, ◌+◌, ◌*◌, ◌<◌, ◌≤◌, min, Bool, true, false, eqb, ◌⊎◌, List, length, set, sym, refl, ap, ◌∙◌, subst, inl, inr, mul-zero, arith, get_or-set_other, get_or-set_same}
+use Rattle.std.proofs.Common.{◌≡◌, ℕ, ◌+◌, ◌*◌, ◌<◌, ◌≤◌, min, Bool, true, false, eqb, not, ◌⊎◌, List, length, set, Some, None, Option, sym, refl, ap, ◌∙◌, subst, inl, inr, mul-zero, arith, get_or-set_other, get_or-set_same}
 use native.Mathlib.Nat.{min-le_left, min-le_right, min-eq_left, min-eq_right}
 use native.Mathlib.Decide.{ℕ_discrete}
 use Rattle.std.proofs.lemmas.List.{get_or_past}
@@ -13,7 +13,11 @@ use Rattle.firing.specs.Reaching.{AllLinked}
 use Rattle.firing.proofs.Action.{run_follows, follows_conserves}
 use Rattle.firing.proofs.Runs.{counts_total, drained_more}
 use Rattle.settling.specs.declared.settle.Outcome.{Outcome}
-use Rattle.settling.specs.Settlings.{Ended}
+use Rattle.settling.specs.Settlings.{Ended, Counted}
+use Rattle.settling.specs.Firings.{LowestReady}
+use Rattle.settling.proofs.Visits.{tallied_none}
+use Rattle.settling.proofs.Going.{ended_still, ended_spent}
+use Rattle.std.specs.Option.{is_some}
 use Rattle.bench.specs.declared.Word.{Word}
 use Rattle.bench.specs.declared.Word.TheVariants.{Still, Ceiling, Budget}
 use Rattle.bench.specs.States.{State}
@@ -108,3 +112,11 @@ module _ (s : Shape) where
             (not_full u).1,
             elim (limit_one budget rest limit o.fired e (r.is_spent t)) [ inl p ↦ p | inr p ↦ absurd (omega (arith, (not_full u).0)) ],
           )
+
+  -- a run with a limit of 0
+  pub none_fired : Sound s → (xs cs : List ℕ) (limit : ℕ) (r : Option ℕ) (still : Bool) → limit ≡ 0 → LowestReady s (at xs) r → is_some r ≡ not still
+      → Counted s (at xs) (at xs) limit (record { fired = 0; still = still }) cs cs
+  none_fired sound xs cs limit None true e low is = ended_still sound (at xs) (at xs) cs cs limit _ (tallied_none s (at xs) cs) (omega arith) refl low
+  none_fired sound xs cs limit None false e low is = absurd (true≢false (sym is))
+  none_fired sound xs cs limit (Some v) true e low is = absurd (true≢false is)
+  none_fired sound xs cs limit (Some v) false e low is = ended_spent sound (at xs) (at xs) cs cs limit _ (tallied_none s (at xs) cs) (omega arith) refl (omega arith) v low

@@ -1,13 +1,15 @@
 -- The steps of a wave.
-use Rattle.std.proofs.Common.{◌≡◌, ℕ, ◌+◌, ◌*◌, ◌<◌, ◌≤◌, ltb, ◌≢◌, List, length, set, Ok, Err, Result, sym, refl, ap, ◌∙◌, subst, inl, inr, mul-zero, arith, length-set, get_or-set_other, get_or-set_same, le-ltb, lt-ltb}
+use Rattle.std.proofs.Common.{◌≡◌, ℕ, ◌+◌, ◌*◌, ◌<◌, ◌≤◌, ltb, ◌≢◌, Bool, true, false, List, length, set, Ok, Err, Result, sym, refl, ap, ◌∙◌, subst, inl, inr, mul-zero, arith, length-set, get_or-set_other, get_or-set_same, le-ltb, lt-ltb, below_more}
 use native.Mathlib.Decide.{ℕ_discrete}
+use Rattle.std.specs.Bool.{MatchBool}
+use mir.Val.{bool_byte}
 use Rattle.std.proofs.lemmas.Bool.{cases_lt, cond-true, cond-false}
 use Rattle.refusal.specs.declared.Part.{Part}
 use Rattle.refusal.specs.declared.Refusal.{Refusal}
 use Rattle.refusal.specs.Table.{Passed}
 use Rattle.refusal.proofs.Answers.{not_both}
 use Rattle.board.specs.Shape.{Shape, Sound, sum_below}
-use Rattle.board.specs.Sums.{sum_none, sum_same}
+use Rattle.board.specs.Sums.{sum_suc, sum_none, sum_same}
 use Rattle.firing.specs.Firing.{at, CanFire, Fires, Counts, begin, fire}
 use Rattle.firing.specs.Settling.{drained, Same}
 use Rattle.firing.proofs.Action.{run_follows, follows_conserves}
@@ -130,3 +132,24 @@ ready_same s h f f' one two = sum_same s.sites f f' (λ v l. elim (can_fire_dec 
   | yes can ↦ (one v l).0 can ∙ sym ((two v l).0 can)
   | no not ↦ (one v l).1 not ∙ sym ((two v l).1 not)
 ])
+
+-- one more site is marked, and counted
+pub marked_more : (s : Shape) (h : ℕ → ℕ) (ms : List ℕ) (v k n : ℕ) (can : Bool) → v < length ms → MatchBool can (CanFire s h v) (CanFire s h v → ⊥) → k ≡ bool_byte can
+    → ((u : ℕ) → u < v → ReadyAt s h u (at ms u)) × (n ≡ sum_below v (at ms)) × (n ≤ v)
+    → ((u : ℕ) → u < v + 1 → ReadyAt s h u (at (set ms v k) u)) × (n + k ≡ sum_below (v + 1) (at (set ms v k))) × (n + k ≤ v + 1)
+marked_more s h ms v k n can inside is byte before = (
+  below_more _ _ (λ u l. subst (ReadyAt s h u) (sym (get_or-set_other ms v u k 0 (omega arith))) (before.0 u l)) (subst (ReadyAt s h v) (sym here) (ready can is byte)),
+  omega (arith, before.1, sum_suc v (at (set ms v k)), sum_same v (at (set ms v k)) (at ms) (λ u l. get_or-set_other ms v u k 0 (omega arith)), here),
+  omega (arith, before.2, one can byte),
+)
+  where
+    here : at (set ms v k) v ≡ k
+    here = get_or-set_same ms v k 0 inside
+
+    ready : (c : Bool) → MatchBool c (CanFire s h v) (CanFire s h v → ⊥) → k ≡ bool_byte c → ReadyAt s h v k
+    ready true can e = (λ q. e, λ cannot. absurd (cannot can))
+    ready false cannot e = (λ q. absurd (cannot q), λ q. e)
+
+    one : (c : Bool) → k ≡ bool_byte c → k ≤ 1
+    one true e = omega (arith, e)
+    one false e = omega (arith, e)

@@ -55,6 +55,10 @@ pub record Law (s : Shape) (start : ℕ → ℕ) (ds : List GrainDrop) (x : Stat
   pub number : x.number ≡ length ds
   pub last : x.last ≡ newest ds
 
+-- a bench that stood under the law at x does at y, with the same start and drops
+abbrev pub KeepsLaw : Shape → State → State → Type 0
+KeepsLaw s x y = (start : ℕ → ℕ) (ds : List GrainDrop) → Law s start ds x → Law s start ds y
+
 -- a record of the avalanche that the newest of these drops opened: its figures are those of the least counts that settle its opening heights
 pub record Recorded (s : Shape) (start : ℕ → ℕ) (ds : List GrainDrop) (r : Record) : Type 0 where
   pub opening : ℕ → ℕ

@@ -1,10 +1,16 @@
 -- A wave on its way, and why a run stopped.
 use Rattle.std.specs.Prelude.{◌≡◌, ℕ, ◌+◌, ◌<◌, ◌≤◌, Bool, true, false, cond, List, length, nat_lt}
-use Rattle.board.specs.Shape.{Shape}
+use Rattle.board.specs.Shape.{Shape, sum_below}
 use Rattle.firing.specs.Firing.{at, Run}
 use Rattle.firing.specs.Settling.{drained}
 use Rattle.bench.specs.declared.Word.{Word}
 use Rattle.bench.specs.declared.Word.TheVariants.{Still, Ceiling, Budget}
+
+-- heights and counts on which firings are made: one of each for each site, and at most 1,000,000 grains
+pub record Movable (s : Shape) (xs cs : List ℕ) : Type 0 where
+  pub sized : length xs ≡ s.sites
+  pub counted : length cs ≡ s.sites
+  pub light : sum_below s.sites (at xs) ≤ 1000000
 
 -- legal firings, w v of each site v, lead from heights h to h'; the counts grow by them, and d grains drain
 pub record WaveDone (s : Shape) (h h' : ℕ → ℕ) (cs cs' : List ℕ) (w : ℕ → ℕ) (d : ℕ) : Type 0 where

@@ -1,16 +1,16 @@
 // Close: a still avalanche becomes a record.
-ghost use Rattle.std.specs.Prelude.{◌≡◌, ℕ, ◌+◌, ◌-◌, ◌<◌, ◌≤◌, List, length, if◌then◌else◌, nat_lt, slice_set};
-ghost use Rattle.board.specs.Shape.{sum_below};
-ghost use Rattle.firing.specs.Firing.{at};
-ghost use Rattle.bench.specs.declared.GrainDrop.{GrainDrop as a_drop};
-ghost use Rattle.bench.specs.States.{state, Conserved, entries, held};
-ghost use Rattle.bench.specs.Avalanches.{Law};
+ghost use Rattle.std.specs.Prelude.{◌≡◌, ◌+◌, ◌<◌, length, count_by, nat_lt, slice_set};
+ghost use Rattle.std.specs.List.{zip};
+ghost use Rattle.bench.specs.States.{state, ticket_number, Conserved, entries, held};
+ghost use Rattle.bench.specs.Avalanches.{KeepsLaw};
+ghost use Rattle.bench.specs.Checks.{MayClose};
 ghost use Rattle.bench.specs.Answers.{Written, Closed, RecordLaw};
 
-use super::phases::{Event, refused};
-use super::{Bench, Record, Records, Ticket};
+use super::firings::total;
+use super::phases::Event;
+use super::{Bench, Phase, Record, Records, Ticket};
 use board::Board;
-use refusal::{Refusal, Row};
+use refusal::{Part, Refusal, Row};
 use settling::fire::lowest_ready;
 
 impl<'a> Records<'a> {
@@ -42,32 +42,12 @@ impl<'a> Records<'a> {
     }
 }
 
-// All firings since the opening.
-fn size_since(counts: &[u64], opened: &[u64]) -> u64
-    requires sized { length opened.now ≡ length counts.now }
-    requires grown { (u : ℕ) → at opened.now u ≤ at counts.now u }
-    requires few { sum_below (length counts.now) (at counts.now) ≤ 1000000000000 }
-    ensures { result ≡ sum_below (length counts.now) (λ v. at counts.now v - at opened.now v) }
-{
-    let mut size = 0;
-    for v in 0..counts.len() {
-        size += counts[v] - opened[v];
-    }
-    size
-}
-
 // The sites that have fired since the opening.
 fn area_since(counts: &[u64], opened: &[u64]) -> u64
-    requires { length opened.now ≡ length counts.now }
-    ensures { result ≡ sum_below (length counts.now) (λ v. (if nat_lt 0 (at counts.now v - at opened.now v) then 1 else 0)) }
+    ensures { result ≡ count_by (λ p. nat_lt p.1 p.0) (zip counts.now opened.now) }
 {
-    let mut area = 0;
-    for v in 0..counts.len() {
-        if counts[v] > opened[v] {
-            area += 1;
-        }
-    }
-    area
+    let fired = counts.iter().zip(opened);
+    fired.filter(|(count, before)| count > before).count() as u64
 }
 
 impl Bench {
@@ -78,10 +58,31 @@ impl Bench {
         Record {
             number: self.number,
             dropped: self.last,
-            size: size_since(&self.counts, &self.opened),
+            size: self.fired - total(&self.opened),
             area: area_since(&self.counts, &self.opened),
             drained: self.drained - self.drained_before,
         }
+    }
+
+    // The phase after the avalanche, if it is still, this ticket may close it and its record finds room.
+    fn may_close<B: Board>(
+        &self,
+        board: &B,
+        ticket: &Ticket,
+        records: &Records,
+    ) -> Result<Phase, Refusal>
+        ensures { MayClose (B.Board.shape board.now) (state self.now) (ticket_number ticket.now) (length (entries records.now)) (held records.now) result }
+    {
+        self.fits(board)?;
+        let next = self.phase_after(Event::Close)?;
+        self.owns(ticket)?;
+        if let Some(v) = lowest_ready(board, &self.heights) {
+            return Err(Part::Bench.refuse_at(Row::NotStill, v));
+        }
+        if records.held >= records.slots.len() {
+            return Err(Part::Bench.refuse(Row::RecordsFull));
+        }
+        Ok(next)
     }
 
     // Ends an open avalanche that is still, with its ticket, and writes its record.
@@ -93,29 +94,19 @@ impl Bench {
     ) -> Result<Record, (Refusal, Ticket)>
         ensures answer { Closed (B.Board.shape board.now) (state self.old) (state self.new) ticket (entries records.old) (held records.old) (entries records.new) (held records.new) result }
         ensures conserved { Conserved (state self.new) }
-        ensures law { (start : ℕ → ℕ) (ds : List a_drop) → Law (B.Board.shape board.now) start ds (state self.old) → Law (B.Board.shape board.now) start ds (state self.new) }
+        ensures law { KeepsLaw (B.Board.shape board.now) (state self.old) (state self.new) }
         ensures least { RecordLaw (B.Board.shape board.now) (state self.old) result }
         ensures same { records.new.slots.ghost_name ≡ records.old.slots.ghost_name }
     {
-        if self.heights.len() != board.count() {
-            return Err((refused(Row::Memory, 0), ticket));
+        match self.may_close(board, &ticket, records) {
+            Ok(next) => {
+                let record = self.record();
+                records.file(record);
+                self.phase = next;
+                let Ticket { number: _ } = ticket;
+                Ok(record)
+            },
+            Err(refusal) => Err((refusal, ticket)),
         }
-        let Some(next) = self.phase_after(Event::Close) else {
-            return Err((refused(Row::Phase, 0), ticket));
-        };
-        if ticket.number != self.number {
-            return Err((refused(Row::Ticket, 0), ticket));
-        }
-        if let Some(v) = lowest_ready(board, &self.heights) {
-            return Err((refused(Row::NotStill, v as u64), ticket));
-        }
-        if records.held >= records.slots.len() {
-            return Err((refused(Row::RecordsFull, 0), ticket));
-        }
-        let record = self.record();
-        records.file(record);
-        self.phase = next;
-        let Ticket { number: _ } = ticket;
-        Ok(record)
     }
 }

@@ -1,35 +1,41 @@
 // Creation: a bench on a board, from site memory that holds the start, and what can be read of a bench.
-ghost use Rattle.std.specs.Prelude.{◌≡◌, ℕ, ◌≤◌, length};
-ghost use Rattle.firing.specs.Firing.{at};
-ghost use Rattle.settling.specs.Reaching.{LowestAstray};
+ghost use Rattle.std.specs.Prelude.{◌≡◌, length, vec_items};
 ghost use Rattle.bench.specs.States.{state};
+ghost use Rattle.bench.specs.Checks.{MayCreate};
 ghost use Rattle.bench.specs.Answers.{Created};
 
-use super::phases::refused;
 use super::{Bench, Phase, SiteMemory};
 use board::Board;
 use refusal::{Part, Refusal, Row};
 use settling::fire::all_grains;
 use settling::reach::reach;
 
-// Makes each entry 0.
-fn clear(xs: &mut [u64])
-    ensures { (u : ℕ) → at xs.new u ≡ 0 }
+// The grains of the start, if a bench may be made of it.
+fn may_create<B: Board>(
+    board: &B,
+    memory: &SiteMemory,
+    waiting: &mut [usize],
+    bytes: &mut [u8],
+    ceiling: u64,
+) -> Result<u64, Refusal>
+    ensures { MayCreate (B.Board.shape board.now) (vec_items memory.now.heights) (vec_items memory.now.counts) (vec_items memory.now.opened) (length waiting.old) (length bytes.old) ceiling result }
 {
-    for i in 0..xs.len() {
-        xs[i] = 0;
+    let n = board.count();
+    if memory.heights.len() != n || memory.counts.len() != n || memory.opened.len() != n {
+        return Err(Part::Bench.refuse(Row::Memory));
     }
-}
-
-// The lowest site that does not reach the drain, or none.
-fn lowest_astray<B: Board>(board: &B, waiting: &mut [usize], bytes: &mut [u8]) -> Option<usize>
-    requires list { (B.Board.shape board.now).sites ≤ length waiting.old }
-    requires bytes { (B.Board.shape board.now).sites ≤ length bytes.old }
-    ensures { LowestAstray (B.Board.shape board.now) result }
-{
-    match reach(board, waiting, bytes, Part::Bench) {
-        Ok(lowest) => lowest,
-        Err(_) => unreachable(),
+    if waiting.len() < n || bytes.len() < n {
+        return Err(Part::Bench.refuse(Row::Memory));
+    }
+    if ceiling < 1 || ceiling > 1_000_000_000_000 {
+        return Err(Part::Bench.refuse(Row::Limit));
+    }
+    let Some(grains) = all_grains(&memory.heights, 1_000_000) else {
+        return Err(Part::Bench.refuse(Row::Limit));
+    };
+    match reach(board, waiting, bytes, Part::Bench)? {
+        Some(v) => Err(Part::Bench.refuse_at(Row::NoDrain, v)),
+        None => Ok(grains),
     }
 }
 
@@ -45,29 +51,17 @@ impl Bench {
     ) -> Result<Bench, (Refusal, SiteMemory)>
         ensures { Created (B.Board.shape board.now) memory (length waiting.old) (length bytes.old) ceiling result }
     {
-        let n = board.count();
-        if memory.heights.len() != n || memory.counts.len() != n || memory.opened.len() != n {
-            return Err((refused(Row::Memory, 0), memory));
-        }
-        if waiting.len() < n || bytes.len() < n {
-            return Err((refused(Row::Memory, 0), memory));
-        }
-        if ceiling < 1 || ceiling > 1_000_000_000_000 {
-            return Err((refused(Row::Limit, 0), memory));
-        }
-        let Some(grains) = all_grains(&memory.heights, 1_000_000) else {
-            return Err((refused(Row::Limit, 0), memory));
+        let grains = match may_create(board, &memory, waiting, bytes, ceiling) {
+            Ok(grains) => grains,
+            Err(refusal) => return Err((refusal, memory)),
         };
-        if let Some(v) = lowest_astray(board, waiting, bytes) {
-            return Err((refused(Row::NoDrain, v as u64), memory));
-        }
         let SiteMemory {
             heights,
             mut counts,
             mut opened,
         } = memory;
-        clear(&mut counts);
-        clear(&mut opened);
+        counts.fill(0);
+        opened.fill(0);
         Ok(Bench {
             heights,
             counts,

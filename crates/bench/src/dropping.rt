@@ -5,10 +5,10 @@ ghost use Rattle.bench.specs.States.{state, Conserved};
 ghost use Rattle.bench.specs.Avalanches.{Law};
 ghost use Rattle.bench.specs.Answers.{Dropped, with_drop};
 
-use super::phases::{Event, refused};
+use super::phases::Event;
 use super::{Bench, GrainDrop, Ticket};
 use board::Board;
-use refusal::{Refusal, Row};
+use refusal::{Part, Refusal, Row};
 
 impl Bench {
     // Drops grains on a site of a resting bench, and gives the ticket of the avalanche that this opens.
@@ -17,18 +17,14 @@ impl Bench {
         ensures conserved { Conserved (state self.new) }
         ensures law { (start : ℕ → ℕ) (ds : List a_drop) → Law (B.Board.shape board.now) start ds (state self.old) → Law (B.Board.shape board.now) start (with_drop result drop ds) (state self.new) }
     {
-        if self.heights.len() != board.count() {
-            return Err(refused(Row::Memory, 0));
-        }
+        self.fits(board)?;
         if drop.grains < 1 || drop.grains > 1_000_000 - self.grains {
-            return Err(refused(Row::Limit, 0));
+            return Err(Part::Bench.refuse(Row::Limit));
         }
         if drop.site >= self.heights.len() {
-            return Err(refused(Row::Site, drop.site as u64));
+            return Err(Part::Bench.refuse_at(Row::Site, drop.site));
         }
-        let Some(next) = self.phase_after(Event::Drop) else {
-            return Err(refused(Row::Phase, 0));
-        };
+        let next = self.phase_after(Event::Drop)?;
         self.opened.copy_from_slice(&self.counts);
         self.heights[drop.site] += drop.grains;
         self.phase = next;

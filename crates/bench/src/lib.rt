@@ -12,6 +12,7 @@ mod firings;
 mod moving;
 mod phases;
 pub mod rows;
+mod words;
 
 // Resting: still, the last avalanche is recorded. Open: a ticket is out. Shelved: laid aside, to be resumed.
 #[derive(Clone, Copy, PartialEq, Eq, Debug)]

@@ -1,15 +1,15 @@
 // Fire, run and wave: legal firings on an open bench.
-ghost use Rattle.std.specs.Prelude.{◌≡◌, ℕ, List, length};
-ghost use Rattle.bench.specs.declared.GrainDrop.{GrainDrop as a_drop};
+ghost use Rattle.std.specs.Prelude.{length};
 ghost use Rattle.bench.specs.States.{state, Conserved};
-ghost use Rattle.bench.specs.Avalanches.{Law};
+ghost use Rattle.bench.specs.Avalanches.{KeepsLaw};
 ghost use Rattle.bench.specs.Answers.{Fired, Ran, Waved};
 
-use super::firings::{fire_counted, fire_marked, mark_ready, run_within, total, word_for};
-use super::phases::{Event, refused};
+use super::firings::{fire_counted, fire_marked, mark_ready, run_within, total};
+use super::phases::Event;
+use super::words::word_for;
 use super::{Bench, RunOutcome};
 use board::Board;
-use refusal::{Refusal, Row};
+use refusal::{Part, Refusal, Row};
 use settling::fire::can_fire;
 
 impl Bench {
@@ -17,22 +17,18 @@ impl Bench {
     pub fn fire<B: Board>(&mut self, board: &B, site: usize) -> Result<(), Refusal>
         ensures answer { Fired (B.Board.shape board.now) (state self.old) (state self.new) site result }
         ensures conserved { Conserved (state self.new) }
-        ensures law { (start : ℕ → ℕ) (ds : List a_drop) → Law (B.Board.shape board.now) start ds (state self.old) → Law (B.Board.shape board.now) start ds (state self.new) }
+        ensures law { KeepsLaw (B.Board.shape board.now) (state self.old) (state self.new) }
     {
-        if self.heights.len() != board.count() {
-            return Err(refused(Row::Memory, 0));
-        }
+        self.fits(board)?;
         if site >= self.heights.len() {
-            return Err(refused(Row::Site, site as u64));
+            return Err(Part::Bench.refuse_at(Row::Site, site));
         }
-        let Some(next) = self.phase_after(Event::Fire) else {
-            return Err(refused(Row::Phase, 0));
-        };
+        let next = self.phase_after(Event::Fire)?;
         if !can_fire(board, &self.heights, site) {
-            return Err(refused(Row::CannotFire, site as u64));
+            return Err(Part::Bench.refuse_at(Row::CannotFire, site));
         }
         if self.fired >= self.ceiling {
-            return Err(refused(Row::Ceiling, 0));
+            return Err(Part::Bench.refuse(Row::Ceiling));
         }
         let drained = fire_counted(board, &mut self.heights, &mut self.counts, site);
         self.phase = next;
@@ -52,18 +48,17 @@ impl Bench {
     ) -> Result<RunOutcome, Refusal>
         ensures answer { Ran (B.Board.shape board.now) (state self.old) (state self.new) (length waiting.old) (length bytes.old) budget result }
         ensures conserved { Conserved (state self.new) }
-        ensures law { (start : ℕ → ℕ) (ds : List a_drop) → Law (B.Board.shape board.now) start ds (state self.old) → Law (B.Board.shape board.now) start ds (state self.new) }
+        ensures law { KeepsLaw (B.Board.shape board.now) (state self.old) (state self.new) }
     {
-        let n = board.count();
-        if self.heights.len() != n || waiting.len() < n || bytes.len() < n {
-            return Err(refused(Row::Memory, 0));
+        self.fits(board)?;
+        let n = self.heights.len();
+        if waiting.len() < n || bytes.len() < n {
+            return Err(Part::Bench.refuse(Row::Memory));
         }
         if budget < 1 || budget > 1_000_000_000 {
-            return Err(refused(Row::Limit, 0));
+            return Err(Part::Bench.refuse(Row::Limit));
         }
-        let Some(next) = self.phase_after(Event::Fire) else {
-            return Err(refused(Row::Phase, 0));
-        };
+        let next = self.phase_after(Event::Fire)?;
         let limit = budget.min(self.ceiling - self.fired);
         let done = run_within(
             board,
@@ -86,20 +81,20 @@ impl Bench {
     pub fn wave<B: Board>(&mut self, board: &B, bytes: &mut [u8]) -> Result<u64, Refusal>
         ensures answer { Waved (B.Board.shape board.now) (state self.old) (state self.new) (length bytes.old) result }
         ensures conserved { Conserved (state self.new) }
-        ensures law { (start : ℕ → ℕ) (ds : List a_drop) → Law (B.Board.shape board.now) start ds (state self.old) → Law (B.Board.shape board.now) start ds (state self.new) }
+        ensures law { KeepsLaw (B.Board.shape board.now) (state self.old) (state self.new) }
     {
-        let n = board.count();
-        if self.heights.len() != n || bytes.len() < n {
-            return Err(refused(Row::Memory, 0));
+        self.fits(board)?;
+        let n = self.heights.len();
+        if bytes.len() < n {
+            return Err(Part::Bench.refuse(Row::Memory));
         }
-        let Some(next) = self.phase_after(Event::Fire) else {
-            return Err(refused(Row::Phase, 0));
-        };
-        let ready = mark_ready(board, &self.heights, bytes);
+        let next = self.phase_after(Event::Fire)?;
+        let marks = &mut bytes[..n];
+        let ready = mark_ready(board, &self.heights, marks);
         if ready > self.ceiling - self.fired {
-            return Err(refused(Row::Ceiling, 0));
+            return Err(Part::Bench.refuse(Row::Ceiling));
         }
-        let drained = fire_marked(board, &mut self.heights, &mut self.counts, bytes);
+        let drained = fire_marked(board, &mut self.heights, &mut self.counts, marks);
         self.phase = next;
         self.fired += ready;
         self.drained += drained;

@@ -1,9 +1,6 @@
-// By which rows the calls refuse, each in the order of its checks; numbers and names of phases and words.
-ghost use Rattle.std.specs.Prelude.{◌≡◌};
-ghost use Rattle.bench.specs.Phases.{phase_number, phase_name, word_number, word_name};
+// By which rows the calls refuse, each in the order of its checks.
 ghost use Rattle.bench.specs.Rows.{RowsAre};
 
-use super::{Phase, Word};
 use refusal::Row;
 
 // The rows of each call.
@@ -43,41 +40,5 @@ pub fn call_rows() -> CallRows
             Row::RecordsFull,
         ],
         shelve: [Row::Memory, Row::Phase, Row::Ticket],
-    }
-}
-
-impl Phase {
-    pub fn number(self) -> u8
-        ensures { result ≡ phase_number self }
-    {
-        self as u8
-    }
-
-    pub fn name(self) -> &'static str
-        ensures { result.now ≡ phase_name self }
-    {
-        match self {
-            Phase::Resting => "resting",
-            Phase::Open => "open",
-            Phase::Shelved => "shelved",
-        }
-    }
-}
-
-impl Word {
-    pub fn number(self) -> u8
-        ensures { result ≡ word_number self }
-    {
-        self as u8
-    }
-
-    pub fn name(self) -> &'static str
-        ensures { result.now ≡ word_name self }
-    {
-        match self {
-            Word::Still => "still",
-            Word::Ceiling => "ceiling",
-            Word::Budget => "budget",
-        }
     }
 }

@@ -15,15 +15,6 @@ use Rattle.play.specs.Whole.{PlayedOn, Answered}
 use Rattle.play.specs.LeastCounts.{with_call, accepted, record_of, records_of, filed, AnswerRecorded, AllRecorded, LeastCount}
 use Rattle.play.specs.Turns.{Agree, place, Kept, Files}
 
-pub files_none : (m : List Record) (n : ℕ) (a : Answer) → record_of a ≡ [] → Files m n a m n
-files_none m n a e = (ap (filed m n) (sym e), omega (arith, ap length e))
-
-pub turn_at : (s : Shape) (part : Part) (slots bytes : ℕ) (p q : Place) (a : Answer) (c c' : Call) → c ≡ c' → Turn s part slots bytes p c' a q → Turn s part slots bytes p c a q
-turn_at s part slots bytes p q a c c' e t = subst (λ k. Turn s part slots bytes p k a q) (sym e) t
-
-pub kept_at : {s : Shape} {x y : State} {a : Answer} (c c' : Call) → c ≡ c' → Kept s x c' a y → Kept s x c a y
-kept_at {s} {x} {y} {a} c c' e t = subst (λ k. Kept s x k a y) (sym e) t
-
 accepted_last : (cs : List Call) (ans : List Answer) (c : Call) (a : Answer) (ds : List GrainDrop) → length cs ≡ length ans
     → accepted (cs ++ c ∷ []) (ans ++ a ∷ []) ds ≡ with_call c a (accepted cs ans ds)
 accepted_last [] [] c a ds e = refl

@@ -1,5 +1,6 @@
 -- What holds between two turns of a play.
-use Rattle.std.specs.Prelude.{◌≡◌, ℕ, ◌+◌, List, length, Some, None, Option}
+use Rattle.std.specs.Prelude.{◌≡◌, ℕ, ◌+◌, List, length, Some, None, Ok, Err, Option, Result}
+use Rattle.refusal.specs.declared.Refusal.{Refusal}
 use Rattle.board.specs.Shape.{Shape}
 use Rattle.bench.specs.declared.Phase.TheVariants.{Open}
 use Rattle.bench.specs.declared.GrainDrop.{GrainDrop}
@@ -9,6 +10,7 @@ use Rattle.bench.specs.States.{State, ticket_number}
 use Rattle.bench.specs.Avalanches.{Law}
 use Rattle.play.specs.declared.Call.{Call}
 use Rattle.play.specs.declared.Answer.{Answer}
+use Rattle.play.specs.declared.Answer.TheVariants.{Refused}
 use Rattle.play.specs.Plays.{Place}
 use Rattle.play.specs.LeastCounts.{with_call, record_of, filed, AnswerRecorded}
 
@@ -32,3 +34,13 @@ Files m n a m' n' = (m' ≡ filed m n (record_of a)) × (n' ≡ n + length (reco
 -- no ticket is in hand
 abbrev pub none_held : Option Ticket
 none_held = None
+
+-- a call gives a ticket only where none is in hand
+abbrev pub GivesOne : Option Ticket → Result Ticket Refusal → Type 0
+GivesOne h (Ok t) = h ≡ None
+GivesOne h (Err e) = Unit {0}
+
+-- a call that ends a ticket; a refusal hands it back
+abbrev pub Ended : Result Answer (Refusal × Ticket) → Option Ticket → Answer → Type 0
+Ended (Ok a) h b = (h ≡ None) × (b ≡ a)
+Ended (Err e) h b = (h ≡ Some e.1) × (b ≡ Refused e.0)

@@ -58,9 +58,6 @@ impl Answer {
     pub fn is_done(self) -> bool
         ensures { result ≡ is_done self }
     {
-        match self {
-            Answer::Refused(_) => false,
-            _ => true,
-        }
+        !matches!(self, Answer::Refused(_))
     }
 }

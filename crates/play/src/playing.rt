@@ -12,7 +12,8 @@ use bench::{Bench, Records, SiteMemory};
 use board::Board;
 use refusal::{Part, Refusal, Row};
 
-// Carries the calls out on a bench that was just created, and ends a ticket that is left.
+// Carries the calls out on a bench that was just created, and ends a ticket that is left. Parameter by parameter, as the
+// caller lends the memory: behind `&mut self`, a struct of several `&mut` slices gets no generated proof.
 fn play_on<B: Board>(
     board: &B,
     bench: &mut Bench,
@@ -30,8 +31,9 @@ fn play_on<B: Board>(
     ensures same { records.new.slots.ghost_name ≡ records.old.slots.ghost_name }
 {
     let mut held = None;
-    for i in 0..calls.len() {
-        let (after, answer) = turn(board, bench, records, waiting, bytes, held, calls[i], part);
+    // By index: an invariant cannot speak of answers while they are lent to a `zip` with `iter_mut`.
+    for (i, call) in calls.iter().enumerate() {
+        let (after, answer) = turn(board, bench, records, waiting, bytes, held, *call, part);
         held = after;
         answers[i] = answer;
     }
@@ -58,20 +60,11 @@ pub fn play<B: Board>(
     ensures same { records.new.slots.ghost_name ≡ records.old.slots.ghost_name }
 {
     if answers.len() != calls.len() {
-        let refusal = Refusal {
-            row: Row::Memory,
-            place: 0,
-            part,
-        };
-        return Err((refusal, memory));
+        return Err((part.refuse(Row::Memory), memory));
     }
-    match Bench::create(board, memory, waiting, bytes, ceiling) {
-        Ok(mut bench) => {
-            play_on(
-                board, &mut bench, calls, answers, records, waiting, bytes, part,
-            );
-            Ok(bench)
-        }
-        Err(back) => Err(back),
-    }
+    let mut bench = Bench::create(board, memory, waiting, bytes, ceiling)?;
+    play_on(
+        board, &mut bench, calls, answers, records, waiting, bytes, part,
+    );
+    Ok(bench)
 }

@@ -23,8 +23,8 @@ overflow_add-index_mut g c =
       b.light,
     )
 
-pub invariant_of-self-3 : goal.invariant_of-self-3
-invariant_of-self-3 g c =
+pub invariant_of-self-2 : goal.invariant_of-self-2
+invariant_of-self-2 g c =
     let b = c.args.self.now in
     let on : c.args.drop.site < length (vec_items b.heights) = omega (arith, b.heights.ok.0) in
     let read = get_or_read (vec_items b.heights) c.args.drop.site c.index_mut.result.now on c.index_mut.ensures.value 0 in
@@ -48,7 +48,8 @@ returns g c =
     let b = c.args.self.now in
     let s = g.B.Board.shape c.args.board.now in
     let d = c.args.drop in
-    let next = after_drop b.phase c.in-Some.next c.in-Some.ensures in
+    let sized : length (vec_items b.heights) ≡ s.sites = c.in_ok-fits.ensures in
+    let next = after_drop b.phase c.in_ok-next.next c.in_ok-next.ensures in
     let on : d.site < length (vec_items b.heights) = omega (arith, b.heights.ok.0) in
     let read = get_or_read (vec_items b.heights) d.site c.index_mut.result.now on c.index_mut.ensures.value 0 in
     let more = set_total b.heights.len (vec_items b.heights) d.site (c.index_mut.result.now + d.grains) d.grains (omega arith) (omega (arith, b.heights.ok.0)) (ap (λ k. k + d.grains) read) in
@@ -56,7 +57,7 @@ returns g c =
       heights = set (vec_items b.heights) d.site (c.index_mut.result.now + d.grains);
       counts = vec_items b.counts;
       opened = vec_items c.copy_from_slice.new.self;
-      phase = c.in-Some.next;
+      phase = c.in_ok-next.next;
       number = b.number + 1;
       last = Some d;
       grains = b.grains + d.grains;
@@ -69,7 +70,7 @@ returns g c =
     let size : length (set (vec_items b.heights) d.site (c.index_mut.result.now + d.grains)) ≡ b.heights.len = length-set (vec_items b.heights) d.site (c.index_mut.result.now + d.grains) ∙ sym b.heights.ok.0 in
     record {
       answer = (
-        (λ p w. w.1 (omega (arith, b.heights.ok.0)), (λ p w. elim w.1 [ inl l ↦ omega arith | inr l ↦ omega arith ], (λ p w. omega (arith, b.heights.ok.0), (λ p w. some_none b.phase c.in-Some.next Drop c.in-Some.ensures w.1, tt)))),
+        (λ p w. w.1 (omega (arith, b.heights.ok.0)), (λ p w. elim w.1 [ inl l ↦ omega arith | inr l ↦ omega arith ], (λ p w. omega (arith, b.heights.ok.0), (λ p w. some_none b.phase c.in_ok-next.next Drop c.in_ok-next.ensures w.1, tt)))),
         same,
         refl,
       );

@@ -13,7 +13,7 @@ returns g c =
     let xs = c.args.heights.now in
     record {
       fires = fired_fires s xs c.fire_near.new.heights c.args.v the_bench c.fire_near.result
-          (fire_passes s xs c.args.v c.requires.sized c.requires.on c.requires.can (low_all xs 1000000 (omega (arith, c.requires.light, ap (λ n. sum_below n (at xs)) c.requires.sized))))
+          (fire_passes s xs c.args.v c.requires.fit.sized c.requires.on c.requires.can (low_all xs 1000000 (omega (arith, c.requires.fit.light, ap (λ n. sum_below n (at xs)) c.requires.fit.sized))))
           c.fire_near.ensures;
       counts = refl;
       drains = c.drain.ensures;

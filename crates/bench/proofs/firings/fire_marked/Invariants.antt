@@ -4,4 +4,4 @@ use Rattle.bench.specs.Waves.{Waving}
 use Rattle.bench.proofs.firings.fire_marked.Given as goal
 
 abbrev pub invariant-loop-v : goal.invariant-loop-v
-invariant-loop-v g l = Waving (g.B.Board.shape l.board) (at l.initial.heights) l.initial.counts (at l.bytes) l.v l.heights l.counts l.drained
+invariant-loop-v g l = Waving (g.B.Board.shape l.board) (at l.initial.heights) l.initial.counts (at l.marks) l.v l.heights l.counts l.drained
