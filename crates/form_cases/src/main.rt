@@ -24,7 +24,7 @@ fn main(rt: HostRuntime) -> anyhow::Result<()> {
 #[cfg(test)]
 mod tests {
     use board::End;
-    use refusal::{Part, Refusal, Row};
+    use refusal::{Part, Row};
     use sheet::{Line, LineRefusal, Unread, check_form, read_sheet};
     use std::process::Abort;
     use std::test::Fail;
@@ -34,7 +34,7 @@ mod tests {
         sheet: &[u8],
         line: usize,
         row: Row,
-        place: u64,
+        place: usize,
     ) -> Result<(), Fail> {
         match check_form(sheet) {
             Ok(_) => Err(Fail::new("good")),
@@ -43,11 +43,7 @@ mod tests {
                     f,
                     LineRefusal {
                         line,
-                        refusal: Refusal {
-                            row,
-                            place,
-                            part: Part::Sheet,
-                        },
+                        refusal: Part::Sheet.refuse_at(row, place),
                     }
                 );
                 Ok(())

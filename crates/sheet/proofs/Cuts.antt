@@ -1,7 +1,7 @@
 -- Laws of parts: what stands before the first stop is the first part.
-use Rattle.std.proofs.Common.{◌≡◌, ℕ, suc, ◌+◌, ◌-◌, ◌<◌, ◌≤◌, true, false, eqb, leb, List, [], ◌∷◌, ◌++◌, length, get_or, drop, sym, refl, ap, ◌∙◌, inl, inr, arith, take-append-drop}
-use Rattle.std.specs.List.{between}
-use Rattle.std.proofs.lemmas.List.{drop-drop, drop_more, get_or-take, get_or-drop, length-take-le, length-drop, take_all, drop_all}
+use Rattle.std.proofs.Common.{◌≡◌, ℕ, suc, ◌+◌, ◌<◌, ◌≤◌, true, false, eqb, leb, List, [], ◌∷◌, ◌++◌, length, get_or, take, drop, Some, None, Option, MatchOption, unwrap_or, sym, refl, ap, ◌∙◌, subst, inl, inr, arith, take-append-drop}
+use Rattle.std.specs.List.{HoldsAt, AllWithin}
+use Rattle.std.proofs.lemmas.List.{drop-drop, drop_more, get_or-take, length-take-le, length-drop, take_all, drop_all}
 use Rattle.std.proofs.lemmas.Bool.{eq-eqb, ne_eqb, le-leb, lt-leb, cond-true, cond-false, cond_both, cases_lt}
 use Rattle.sheet.specs.Parts.{parts, fronted, ahead, unended, marked, lines}
 
@@ -30,31 +30,37 @@ unfolding parts fronted
 parts_last stop [] f = refl
 parts_last stop (x ∷ w) f = parts_other stop x w (f 0 (omega arith)) ∙ ap (fronted x) (parts_last stop w (free_tail stop x w f))
 
--- the bytes from `at` up to the stop at e
-free_between : (stop : ℕ) (s : List ℕ) (at e : ℕ) → at ≤ e → e ≤ length s → ((k : ℕ) → at ≤ k → k < e → get_or s k 0 ≡ stop → ⊥) → Free stop (between at e s)
-free_between stop s at e le within free k h is =
-    let size = length-take-le (e - at) (drop at s) (omega (arith, length-drop at s)) in
-    free (at + k) (omega arith) (omega arith) (sym (get_or-take (e - at) (drop at s) k 0 (omega arith) ∙ get_or-drop at s k 0) ∙ is)
+-- no stop stands before i
+free_before : (stop : ℕ) (w : List ℕ) (i : ℕ) → i ≤ length w → AllWithin (λ b. b ≡ stop → ⊥) w 0 i → Free stop (take i w)
+free_before stop w i le free k h is =
+    let lt : k < i = omega (arith, length-take-le i w le) in
+    free k 0 (omega arith) lt (sym (get_or-take i w k 0 lt) ∙ is)
 
--- one part taken: the cursor goes from `at` behind the stop at e
-pub ahead_taken : (stop : ℕ) (s : List ℕ) (at e : ℕ) → at ≤ e → e ≤ length s → ((k : ℕ) → at ≤ k → k < e → get_or s k 0 ≡ stop → ⊥) → (e < length s → get_or s e 0 ≡ stop) → ahead stop s at ≡ between at e s ∷ ahead stop s (e + 1)
-ahead_taken stop s at e le within free stops =
-    let w = between at e s in
-    let clear = free_between stop s at e le within free in
-    let here : ahead stop s at ≡ parts stop (drop at s) = cond-true (leb at (length s)) _ _ (le-leb at (length s) (omega arith)) in
-    let step : at + (e - at) ≡ e = omega arith in
-    elim (cases_lt e (length s)) [
-      | inl more ↦
-          let cut : drop at s ≡ w ++ stop ∷ drop (e + 1) s =
-          sym (take-append-drop (e - at) (drop at s))
-          ∙ ap (λ r. w ++ r) (drop-drop (e - at) at s ∙ ap (λ k. drop k s) step ∙ drop_more s e 0 more ∙ ap (λ b. b ∷ drop (e + 1) s) (stops more)) in
-          here ∙ ap (parts stop) cut ∙ parts_cut stop w (drop (e + 1) s) clear
-          ∙ ap (λ r. w ∷ r) (sym (cond-true (leb (e + 1) (length s)) _ _ (le-leb (e + 1) (length s) (omega arith))))
-      | inr end ↦
-          let whole : drop at s ≡ w = sym (take_all (e - at) (drop at s) (omega (arith, length-drop at s))) in
-          here ∙ ap (parts stop) whole ∙ parts_last stop w clear
-          ∙ ap (λ r. w ∷ r) (sym (cond-false (leb (e + 1) (length s)) _ _ (lt-leb (e + 1) (length s) (omega arith))))
-    ]
+-- where the first stop stands, if any does
+abbrev pub FirstStop : ℕ → List ℕ → Option ℕ → Type 0
+FirstStop stop w r = MatchOption r (AllWithin (λ b. b ≡ stop → ⊥) w 0 (length w)) (λ i. (i < length w) × HoldsAt (λ b. b ≡ stop) w i × AllWithin (λ b. b ≡ stop → ⊥) w 0 i)
+
+ahead_first : (stop : ℕ) (s : List ℕ) (at : ℕ) (r : Option ℕ) → at ≤ length s → FirstStop stop (drop at s) r → ahead stop s at ≡ take (unwrap_or r (length (drop at s))) (drop at s) ∷ ahead stop s (at + (unwrap_or r (length (drop at s)) + 1))
+ahead_first stop s at None le free =
+    let w = drop at s in
+    let n = length w in
+    let here : ahead stop s at ≡ parts stop w = cond-true (leb at (length s)) _ _ (le-leb at (length s) le) in
+    let past : length s < at + (n + 1) = omega (arith, length-drop at s) in
+    let end : ahead stop s (at + (n + 1)) ≡ [] = cond-false (leb (at + (n + 1)) (length s)) _ _ (lt-leb (at + (n + 1)) (length s) past) in
+    let whole : take n w ≡ w = take_all n w (omega arith) in
+    here ∙ ap (parts stop) (sym whole) ∙ parts_last stop (take n w) (free_before stop w n (omega arith) free) ∙ ap (λ r. take n w ∷ r) (sym end)
+ahead_first stop s at (Some i) le first =
+    let w = drop at s in
+    let here : ahead stop s at ≡ parts stop w = cond-true (leb at (length s)) _ _ (le-leb at (length s) le) in
+    let more : at + (i + 1) ≤ length s = omega (arith, length-drop at s, first.0) in
+    let rest : ahead stop s (at + (i + 1)) ≡ parts stop (drop (at + (i + 1)) s) = cond-true (leb (at + (i + 1)) (length s)) _ _ (le-leb (at + (i + 1)) (length s) more) in
+    let cut : w ≡ take i w ++ stop ∷ drop (at + (i + 1)) s =
+    sym (take-append-drop i w) ∙ ap (λ r. take i w ++ r) (drop_more w i 0 first.0 ∙ ap (λ b. b ∷ drop (i + 1) w) (first.1 0) ∙ ap (λ r. stop ∷ r) (drop-drop (i + 1) at s)) in
+    here ∙ ap (parts stop) cut ∙ parts_cut stop (take i w) (drop (at + (i + 1)) s) (free_before stop w i (omega (arith, first.0)) first.2) ∙ ap (λ r. take i w ∷ r) (sym rest)
+
+-- one part taken: the cursor goes from `at` behind the first stop, or behind the end where none is left
+pub ahead_taken : (stop : ℕ) (s : List ℕ) (at : ℕ) (w : List ℕ) (r : Option ℕ) (e : ℕ) → w ≡ drop at s → at ≤ length s → FirstStop stop w r → e ≡ unwrap_or r (length w) → ahead stop s at ≡ take e w ∷ ahead stop s (at + (e + 1))
+ahead_taken stop s at w r e same le first is = rw (is, same) (ahead_first stop s at r le (subst (λ (v : List ℕ). FirstStop stop v r) same first))
 
 pub parts_some : (stop : ℕ) (xs : List ℕ) → (q : List ℕ) × (qs : List (List ℕ)) × (parts stop xs ≡ q ∷ qs)
 unfolding parts fronted

@@ -1,28 +1,55 @@
 -- A line's first word: the letter alone, or the letter and a space.
-use Rattle.std.proofs.Common.{◌≡◌, ℕ, zero, suc, ◌≤◌, cond, eqb, ◌⊎◌, List, [], ◌∷◌, length, get_or, drop, Some, None, Option, sym, refl, ap, ◌∙◌, inl, inr, arith}
+use Rattle.std.proofs.Common.{◌≡◌, ℕ, zero, suc, ◌≤◌, cond, eqb, ◌⊎◌, List, [], ◌∷◌, length, get_or, drop, Some, None, Ok, Err, Option, Result, sym, refl, ap, ◌∙◌, inl, inr, arith}
 use Rattle.std.proofs.lemmas.Bool.{cases_eq}
 use Rattle.sheet.specs.declared.Kind.{Kind}
 use Rattle.sheet.specs.declared.Kind.TheVariants.{Grid, Sites, Link, Earth, Merge, Cut, Height, Ceiling, Drop, Fire, Run, Wave, Close, Shelve, Resume}
 use Rattle.sheet.specs.Parts.{parts, fronted}
-use Rattle.sheet.specs.Letters.{letter, Head}
+use Rattle.sheet.specs.declared.UnknownLetter.{UnknownLetter}
+use Rattle.sheet.specs.Form.{NoLetter}
+use Rattle.sheet.specs.Letters.{letter, Head, Known}
+use Rattle.std.specs.Result.{result_ok}
 use Rattle.sheet.proofs.Cuts.{Free, parts_stop, parts_other, parts_cut, parts_last, parts_some, single_is}
 
+-- the letter of a byte
+known : ℕ → Option Kind
+known c =
+    cond (eqb c 103) (Some Grid) (
+    cond (eqb c 110) (Some Sites) (
+    cond (eqb c 108) (Some Link) (
+    cond (eqb c 101) (Some Earth) (
+    cond (eqb c 109) (Some Merge) (
+    cond (eqb c 99) (Some Cut) (
+    cond (eqb c 104) (Some Height) (
+    cond (eqb c 107) (Some Ceiling) (
+    cond (eqb c 100) (Some Drop) (
+    cond (eqb c 102) (Some Fire) (
+    cond (eqb c 114) (Some Run) (
+    cond (eqb c 119) (Some Wave) (
+    cond (eqb c 115) (Some Close) (
+    cond (eqb c 112) (Some Shelve) (
+    cond (eqb c 117) (Some Resume) (None)))))))))))))))
+
+known_letter : (k : Kind) → known (letter k) ≡ Some k
+unfolding known
+known_letter Grid = refl
+known_letter Sites = refl
+known_letter Link = refl
+known_letter Earth = refl
+known_letter Merge = refl
+known_letter Cut = refl
+known_letter Height = refl
+known_letter Ceiling = refl
+known_letter Drop = refl
+known_letter Fire = refl
+known_letter Run = refl
+known_letter Wave = refl
+known_letter Close = refl
+known_letter Shelve = refl
+known_letter Resume = refl
+
 letter_no_space : (k : Kind) → letter k ≡ 32 → ⊥
-letter_no_space Grid = λ e. omega arith
-letter_no_space Sites = λ e. omega arith
-letter_no_space Link = λ e. omega arith
-letter_no_space Earth = λ e. omega arith
-letter_no_space Merge = λ e. omega arith
-letter_no_space Cut = λ e. omega arith
-letter_no_space Height = λ e. omega arith
-letter_no_space Ceiling = λ e. omega arith
-letter_no_space Drop = λ e. omega arith
-letter_no_space Fire = λ e. omega arith
-letter_no_space Run = λ e. omega arith
-letter_no_space Wave = λ e. omega arith
-letter_no_space Close = λ e. omega arith
-letter_no_space Shelve = λ e. omega arith
-letter_no_space Resume = λ e. omega arith
+unfolding known
+letter_no_space k e = let same = sym (known_letter k) ∙ ap known e in cc
 
 letter_free : (k : Kind) → Free 32 (letter k ∷ [])
 letter_free k zero h e = letter_no_space k e
@@ -69,42 +96,14 @@ head_inverse (a ∷ b ∷ r) k ws h =
       ]
     ]
 
--- the letter of a byte
-known : ℕ → Option Kind
-known c =
-    cond (eqb c 103) (Some Grid) (
-    cond (eqb c 110) (Some Sites) (
-    cond (eqb c 108) (Some Link) (
-    cond (eqb c 101) (Some Earth) (
-    cond (eqb c 109) (Some Merge) (
-    cond (eqb c 99) (Some Cut) (
-    cond (eqb c 104) (Some Height) (
-    cond (eqb c 107) (Some Ceiling) (
-    cond (eqb c 100) (Some Drop) (
-    cond (eqb c 102) (Some Fire) (
-    cond (eqb c 114) (Some Run) (
-    cond (eqb c 119) (Some Wave) (
-    cond (eqb c 115) (Some Close) (
-    cond (eqb c 112) (Some Shelve) (
-    cond (eqb c 117) (Some Resume) (None)))))))))))))))
+-- a line whose first byte is no letter
+pub known_none : {p : Option Kind} (l : List ℕ) (c : ℕ) (r : Result Kind UnknownLetter) → Known c r → result_ok r ≡ None → c ≡ get_or l 0 0 → NoLetter p l
+known_none l c (Ok k) is none here = absurd (cc)
+known_none l c (Err e) is none here = record { none = λ k ws h may. is.1 k ((head_inverse l k ws h).first ∙ sym here) }
 
-known_letter : (k : Kind) → known (letter k) ≡ Some k
-unfolding known
-known_letter Grid = refl
-known_letter Sites = refl
-known_letter Link = refl
-known_letter Earth = refl
-known_letter Merge = refl
-known_letter Cut = refl
-known_letter Height = refl
-known_letter Ceiling = refl
-known_letter Drop = refl
-known_letter Fire = refl
-known_letter Run = refl
-known_letter Wave = refl
-known_letter Close = refl
-known_letter Shelve = refl
-known_letter Resume = refl
+pub known_some : (c : ℕ) (k : Kind) (r : Result Kind UnknownLetter) → Known c r → result_ok r ≡ Some k → letter k ≡ c
+known_some c k (Ok j) is some = let same : j ≡ k = cc in ap letter (sym same) ∙ is
+known_some c k (Err e) is some = absurd (cc)
 
 letter_one : (j k : Kind) → letter j ≡ letter k → j ≡ k
 letter_one j k e = let same = sym (known_letter j) ∙ ap known e ∙ known_letter k in cc

@@ -61,33 +61,6 @@ line_of Close vs = line.Close
 line_of Shelve vs = line.Shelve
 line_of Resume vs = line.Resume
 
-line_back : (x : Line) → line_of (kind x) (said x) ≡ x
-unfolding line_of number_of end_of
-line_back (line.Grid r c) = refl
-line_back (line.Sites n) = refl
-line_back (line.Link v (Site u) k) = refl
-line_back (line.Link v Drain k) = refl
-line_back (line.Earth w) = refl
-line_back (line.Merge a b) = refl
-line_back (line.Cut v (Site u) k) = refl
-line_back (line.Cut v Drain k) = refl
-line_back (line.Height v k) = refl
-line_back (line.Ceiling k) = refl
-line_back (line.Drop v k) = refl
-line_back (line.Fire v) = refl
-line_back (line.Run k) = refl
-line_back line.Wave = refl
-line_back line.Close = refl
-line_back line.Shelve = refl
-line_back line.Resume = refl
-
--- a line of good form says one thing
-fine_one : {p q : Option Kind} {l : Raw} (x y : Line) → Fine p l x → Fine q l y → x ≡ y
-fine_one {p} {q} {l} x y f g =
-    let same = head_one l.bytes (kind x) (kind y) f.words g.words f.head g.head in
-    let says = say_one g.words (said x) (said y) (subst (λ ws. Say ws (said x)) same.1 f.says) g.says in
-    sym (line_back x) ∙ ap (λ k. line_of k (said x)) same.0 ∙ ap (line_of (kind y)) says ∙ line_back y
-
 -- the words of a line fit the places of its letter
 abbrev Suit : List Slot → List Value → Type 0
 Suit [] [] = Unit {0}
@@ -97,24 +70,33 @@ Suit (number ∷ ts) (amount n ∷ vs) = Suit ts vs
 Suit (number ∷ ts) (drain ∷ vs) = ⊥
 Suit (far ∷ ts) (v ∷ vs) = Suit ts vs
 
-suits : (x : Line) → Suit (slots (kind x)) (said x)
-suits (line.Grid r c) = tt
-suits (line.Sites n) = tt
-suits (line.Link v (Site u) k) = tt
-suits (line.Link v Drain k) = tt
-suits (line.Earth w) = tt
-suits (line.Merge a b) = tt
-suits (line.Cut v (Site u) k) = tt
-suits (line.Cut v Drain k) = tt
-suits (line.Height v k) = tt
-suits (line.Ceiling k) = tt
-suits (line.Drop v k) = tt
-suits (line.Fire v) = tt
-suits (line.Run k) = tt
-suits line.Wave = tt
-suits line.Close = tt
-suits line.Shelve = tt
-suits line.Resume = tt
+-- a line is what its letter and its words say, and its words fit their places
+line_told : (x : Line) → (line_of (kind x) (said x) ≡ x) × Suit (slots (kind x)) (said x)
+unfolding line_of number_of end_of
+line_told (line.Grid r c) = (refl, tt)
+line_told (line.Sites n) = (refl, tt)
+line_told (line.Link v (Site u) k) = (refl, tt)
+line_told (line.Link v Drain k) = (refl, tt)
+line_told (line.Earth w) = (refl, tt)
+line_told (line.Merge a b) = (refl, tt)
+line_told (line.Cut v (Site u) k) = (refl, tt)
+line_told (line.Cut v Drain k) = (refl, tt)
+line_told (line.Height v k) = (refl, tt)
+line_told (line.Ceiling k) = (refl, tt)
+line_told (line.Drop v k) = (refl, tt)
+line_told (line.Fire v) = (refl, tt)
+line_told (line.Run k) = (refl, tt)
+line_told line.Wave = (refl, tt)
+line_told line.Close = (refl, tt)
+line_told line.Shelve = (refl, tt)
+line_told line.Resume = (refl, tt)
+
+-- a line of good form says one thing
+fine_one : {p q : Option Kind} {l : Raw} (x y : Line) → Fine p l x → Fine q l y → x ≡ y
+fine_one {p} {q} {l} x y f g =
+    let same = head_one l.bytes (kind x) (kind y) f.words g.words f.head g.head in
+    let says = say_one g.words (said x) (said y) (subst (λ ws. Say ws (said x)) same.1 f.says) g.says in
+    sym (line_told x).0 ∙ ap (λ k. line_of k (said x)) same.0 ∙ ap (line_of (kind y)) says ∙ (line_told y).0
 
 says_far : (w : List ℕ) (v : Value) → Says w v → Fits far w
 says_far w (amount n) s = inl s.0
@@ -142,7 +124,7 @@ fine_passes {p} {l} x f = (
     (
       (λ c b.
           let same = head_one l.bytes b.letter (kind x) b.words f.words b.head f.head in
-          fits_all 3 c (slots (kind x)) f.words (said x) (suits x) f.says
+          fits_all 3 c (slots (kind x)) f.words (said x) (line_told x).1 f.says
           (subst (λ ws. Misfit 3 (slots (kind x)) ws c) same.1 (subst (λ k. Misfit 3 (slots k) b.words c) same.0 b.fails))),
       tt,
     ),

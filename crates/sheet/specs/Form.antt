@@ -5,12 +5,13 @@ use Rattle.refusal.specs.declared.Row.TheVariants as row
 use Rattle.refusal.specs.declared.Part.TheVariants.{Sheet}
 use Rattle.refusal.specs.Table.{Check, Refused}
 use Rattle.sheet.specs.declared.Kind.{Kind}
+use Rattle.sheet.specs.declared.letters.Stage.TheVariants as stages
 use Rattle.sheet.specs.declared.Line.{Line}
 use Rattle.sheet.specs.declared.LineRefusal.{LineRefusal}
 use Rattle.sheet.specs.declared.Unread.{Unread}
 use Rattle.sheet.specs.declared.Unread.TheVariants.{Form, Memory}
 use Rattle.sheet.specs.Parts.{Raw, lines}
-use Rattle.sheet.specs.Letters.{Head, reached, May, slots, Misfit, kind, said, Say}
+use Rattle.sheet.specs.Letters.{Head, rank, reached, May, slots, Misfit, kind, said, Say}
 
 -- a byte that a line may hold: a to z, a digit, the space or *
 abbrev pub Plain : ℕ → Type 0
@@ -61,7 +62,7 @@ pub record Fine (p : Option Kind) (l : Raw) (x : Line) : Type 0 where
 
 -- the letters have come to k: the last is k or a command
 abbrev pub Capped : Option Kind → Type 0
-Capped p = 8 ≤ reached p
+Capped p = rank stages.Ceiling ≤ rank (reached p)
 
 -- lines behind the letter p: all are of good form, say xs, and come to k
 abbrev pub AllFine : Option Kind → List Raw → List Line → Type 0

@@ -1,11 +1,14 @@
 -- What a line is: its letter, where that letter may stand, the words behind it, and what they say.
-use Rattle.std.specs.Prelude.{◌≡◌, ℕ, ◌+◌, ◌≤◌, ◌⊎◌, List, [], ◌∷◌, length, Some, None, Option}
+use Rattle.std.specs.Prelude.{◌≡◌, ℕ, ◌+◌, ◌≤◌, ◌⊎◌, List, [], ◌∷◌, length, Some, None, Ok, Err, Option, Result, ◌≢◌}
 use Rattle.std.specs.Str.Parse.{digits_value}
 use Rattle.sheet.specs.declared.Kind.{Kind}
 use Rattle.sheet.specs.declared.Kind.TheVariants.{Grid, Sites, Link, Earth, Merge, Cut, Height, Ceiling, Drop, Fire, Run, Wave, Close, Shelve, Resume}
 use Rattle.board.specs.declared.link.End.{End}
 use Rattle.board.specs.declared.link.End.TheVariants.{Site, Drain}
+use Rattle.sheet.specs.declared.letters.Stage.{Stage}
+use Rattle.sheet.specs.declared.letters.Stage.TheVariants as stages
 use Rattle.sheet.specs.declared.Line.{Line}
+use Rattle.sheet.specs.declared.UnknownLetter.{UnknownLetter}
 use Rattle.sheet.specs.declared.Line.TheVariants as line
 use Rattle.sheet.specs.Parts.{Number, parts}
 
@@ -27,54 +30,72 @@ letter Close = 115
 letter Shelve = 112
 letter Resume = 117
 
+-- the letter that a character is, or that it is none
+abbrev pub Known : ℕ → Result Kind UnknownLetter → Type 0
+Known c (Ok k) = letter k ≡ c
+Known c (Err e) = (e.0 ≡ c) × ((k : Kind) → letter k ≢ c)
+
 -- the first word of a line is the letter of k, and these words stand behind it
 abbrev pub Head : List ℕ → Kind → List (List ℕ) → Type 0
 Head l k ws = parts 32 l ≡ (letter k ∷ []) ∷ ws
 
--- where a letter stands in a sheet: n, l, g, e, m, c, h, k, commands; a sheet's start is at 0
-abbrev pub stage : Kind → ℕ
-stage Sites = 1
-stage Link = 2
-stage Grid = 3
-stage Earth = 4
-stage Merge = 5
-stage Cut = 6
-stage Height = 7
-stage Ceiling = 8
-stage Drop = 9
-stage Fire = 9
-stage Run = 9
-stage Wave = 9
-stage Close = 9
-stage Shelve = 9
-stage Resume = 9
+-- the order of the stages: a sheet's start, then n, l, g, e, m, c, h, k, commands
+abbrev pub rank : Stage → ℕ
+rank stages.Start = 0
+rank stages.Sites = 1
+rank stages.Link = 2
+rank stages.Grid = 3
+rank stages.Earth = 4
+rank stages.Merge = 5
+rank stages.Cut = 6
+rank stages.Height = 7
+rank stages.Ceiling = 8
+rank stages.Command = 9
+
+-- where a letter stands in a sheet
+abbrev pub stage : Kind → Stage
+stage Sites = stages.Sites
+stage Link = stages.Link
+stage Grid = stages.Grid
+stage Earth = stages.Earth
+stage Merge = stages.Merge
+stage Cut = stages.Cut
+stage Height = stages.Height
+stage Ceiling = stages.Ceiling
+stage Drop = stages.Command
+stage Fire = stages.Command
+stage Run = stages.Command
+stage Wave = stages.Command
+stage Close = stages.Command
+stage Shelve = stages.Command
+stage Resume = stages.Command
 
 -- the stage of the letter before, or of the start
-abbrev pub reached : Option Kind → ℕ
-reached None = 0
+abbrev pub reached : Option Kind → Stage
+reached None = stages.Start
 reached (Some k) = stage k
 
 -- the first and the last stage that a letter may stand right behind
-abbrev pub behind : Kind → ℕ × ℕ
-behind Sites = (0, 0)
-behind Grid = (0, 0)
-behind Link = (1, 2)
-behind Earth = (1, 3)
-behind Merge = (1, 4)
-behind Cut = (1, 6)
-behind Height = (1, 7)
-behind Ceiling = (1, 7)
-behind Drop = (8, 9)
-behind Fire = (8, 9)
-behind Run = (8, 9)
-behind Wave = (8, 9)
-behind Close = (8, 9)
-behind Shelve = (8, 9)
-behind Resume = (8, 9)
+abbrev pub behind : Kind → Stage × Stage
+behind Sites = (stages.Start, stages.Start)
+behind Grid = (stages.Start, stages.Start)
+behind Link = (stages.Sites, stages.Link)
+behind Earth = (stages.Sites, stages.Grid)
+behind Merge = (stages.Sites, stages.Earth)
+behind Cut = (stages.Sites, stages.Cut)
+behind Height = (stages.Sites, stages.Height)
+behind Ceiling = (stages.Sites, stages.Height)
+behind Drop = (stages.Ceiling, stages.Command)
+behind Fire = (stages.Ceiling, stages.Command)
+behind Run = (stages.Ceiling, stages.Command)
+behind Wave = (stages.Ceiling, stages.Command)
+behind Close = (stages.Ceiling, stages.Command)
+behind Shelve = (stages.Ceiling, stages.Command)
+behind Resume = (stages.Ceiling, stages.Command)
 
 -- a letter may stand behind the letter before it, or at the start
 abbrev pub May : Option Kind → Kind → Type 0
-May p k = ((behind k).0 ≤ reached p) × (reached p ≤ (behind k).1)
+May p k = (rank (behind k).0 ≤ rank (reached p)) × (rank (reached p) ≤ rank (behind k).1)
 
 -- what may stand in a word's place: a number, or a number or the drain
 pub data Slot : Type 0 where

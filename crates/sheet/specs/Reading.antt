@@ -1,6 +1,8 @@
 -- What the reader's steps give: r is the reader before a step, q after it.
-use Rattle.std.specs.Prelude.{◌≡◌, ℕ, ◌+◌, ◌<◌, ◌≤◌, Bool, true, false, ◌⊎◌, List, [], ◌∷◌, length, drop, Some, None, Ok, Err, Option, Result, ◌≢◌, slice_index, slice_index_or}
+use Rattle.std.specs.Prelude.{◌≡◌, ℕ, ◌+◌, ◌<◌, ◌≤◌, Bool, true, false, ◌⊎◌, List, [], ◌∷◌, length, drop, Some, None, Ok, Err, Option, Result, ◌≢◌, slice_index, ◌-◌, if◌then◌else◌}
 use Rattle.std.specs.Borrow.{Bor}
+use Rattle.std.specs.Range.{range_inclusive_start, range_inclusive_end, range_inclusive_exhausted}
+use Rattle.std.specs.declared.ops.RangeInclusive.{RangeInclusive}
 use Rattle.refusal.specs.declared.Refusal.{Refusal}
 use Rattle.refusal.specs.declared.Row.TheVariants as row
 use Rattle.refusal.specs.declared.Part.TheVariants.{Sheet}
@@ -8,14 +10,16 @@ use Rattle.refusal.specs.Table.{Refused}
 use Rattle.sheet.specs.declared.Kind.{Kind}
 use Rattle.sheet.specs.declared.Line.{Line}
 use Rattle.sheet.specs.declared.LineRefusal.{LineRefusal}
+use Rattle.sheet.specs.declared.letters.Stage.{Stage}
+use Rattle.sheet.specs.declared.reader.Lines.{Lines}
 use Rattle.sheet.specs.declared.reader.Place.{Place}
 use Rattle.sheet.specs.declared.reader.RawLine.{RawLine}
 use Rattle.sheet.specs.declared.reader.Reader.{Reader}
 use Rattle.sheet.specs.declared.reader.Word.{Word}
 use Rattle.sheet.specs.declared.reader.Word.TheVariants.{Number, Drain, Letter}
 use Rattle.sheet.specs.Parts.{Raw, parts, ahead, lines}
-use Rattle.sheet.specs.Form.{PlainTo, BadByte, NoLetter, BadWord, line_checks, Fine, Capped, FirstBad}
-use Rattle.sheet.specs.Letters.{letter, Head, Slot, slots, Misfit, Value, Says, Say, kind, said}
+use Rattle.sheet.specs.Form.{PlainTo, BadByte, NoLetter, BadWord, line_checks, Fine, Capped, FirstBad, at}
+use Rattle.sheet.specs.Letters.{Head, Slot, slots, Misfit, Value, Says, Say, kind, said}
 
 -- the line as it stands
 abbrev pub raw : RawLine → Raw
@@ -76,12 +80,6 @@ abbrev pub NextWord : Reader → Reader → Result Word ℕ → Type 0
 NextWord r q (Ok w) = WordTaken r q w
 NextWord r q (Err x) = NoWord r x
 
--- a word as short as a number, with no leading 0 but in one byte
-pub record Short (w : List ℕ) : Type 0 where
-  pub some : 0 < length w
-  pub short : length w ≤ 13
-  pub plain : slice_index_or w 0 0 ≡ 48 → length w ≡ 1
-
 -- the next word was taken, and says e
 pub record Took (r q : Reader) (e : Value) : Type 0 where
   pub word : List ℕ
@@ -103,10 +101,9 @@ abbrev pub LineRead : Kind → Reader → Result Line ℕ → Type 0
 LineRead k r (Ok x) = (kind x ≡ k) × Say (words_ahead r) (said x)
 LineRead k r (Err c) = Misfit r.column (slots k) (words_ahead r) c
 
--- the letter that a byte is, or that it is none
-abbrev pub Known : ℕ → Option Kind → Type 0
-Known c (Some k) = letter k ≡ c
-Known c None = (k : Kind) → letter k ≢ c
+-- the stages from the first of the pair to the last
+abbrev pub IsSpan : RangeInclusive Stage → Stage × Stage → Type 0
+IsSpan r p = (range_inclusive_start r ≡ p.0) × (range_inclusive_end r ≡ p.1) × (range_inclusive_exhausted r ≡ false)
 
 -- the words behind the letter: those of the rest, or none where the line is its letter alone
 abbrev pub rest_words : Option (Bor (List ℕ)) → List (List ℕ)
@@ -160,3 +157,18 @@ abbrev pub NextSaid : Reader → Reader → Option Kind → Result (Option Line)
 NextSaid r q p (Ok (Some x)) = LineSaid r q p x
 NextSaid r q p (Ok None) = (lines_ahead r ≡ []) × Capped p
 NextSaid r q p (Err f) = FirstBad p r.line (lines_ahead r) f
+
+-- the next of a sheet's lines: a line of good form, the refusal of a bad one, behind which nothing comes, or the end
+abbrev pub LinesNext : Lines → Option (Result Line LineRefusal) → Lines → Type 0
+LinesNext r (Some (Ok x)) q = LineSaid r.reader q.reader r.last x × (q.last ≡ Some (kind x)) × (q.refused ≡ false) × (q.reader.bytes.now ≡ r.reader.bytes.now)
+LinesNext r (Some (Err f)) q = FirstBad r.last r.reader.line (lines_ahead r.reader) f × (q.refused ≡ true)
+LinesNext r None q = r.refused ≡ false → (lines_ahead r.reader ≡ []) × Capped r.last
+
+-- at most so many lines are left
+abbrev pub lines_left : Lines → ℕ
+lines_left r = if r.refused then 0 else length r.reader.bytes.now + 2 - r.reader.at
+
+-- the lines of a sheet that is not too long, from the first on; or the refusal of its size
+abbrev pub Opened : List ℕ → Result Lines LineRefusal → Type 0
+Opened s (Ok r) = (length s ≤ 65536) × (r.reader.bytes.now ≡ s) × (r.reader.at ≡ 0) × (r.reader.line ≡ 1) × (r.last ≡ None) × (r.refused ≡ false)
+Opened s (Err f) = (65536 < length s) × (f ≡ at 0 row.Limit 0)

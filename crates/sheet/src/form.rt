@@ -1,13 +1,14 @@
 // The form of a whole sheet: its size, then its lines in turn up to the first bad one.
-ghost use Rattle.std.specs.Prelude.{◌≡◌, ◌+◌, ◌≤◌, Ok, Err};
+ghost use Rattle.std.specs.Prelude.{◌≡◌, ◌+◌, ◌≤◌, MatchResult};
+ghost use Rattle.std.specs.Iterator.{at_most};
 ghost use Rattle.sheet.specs.declared.Unread.TheVariants.{Form, Memory};
 ghost use Rattle.sheet.specs.Form.{Good, Checked, Unreadable};
 ghost use Rattle.sheet.specs.Laws.{NotBoth, OneReading, OneRefusal, RowsInOrder};
-ghost use Rattle.sheet.specs.Reading.{NextSaid};
+ghost use Rattle.sheet.specs.Reading.{NextSaid, LinesNext, lines_left, Opened};
 
-use super::letters::reached;
-use super::lines::{read_line, refused};
-use super::reader::Reader;
+use super::letters::{Stage, reached};
+use super::lines::read_line;
+use super::reader::{Lines, Reader};
 use super::{Kind, Line, LineRefusal, Unread};
 use refusal::Row;
 use std::alloc::{AllocError, AllocFailed, Global};
@@ -19,23 +20,61 @@ fn next_said(reader: &mut Reader, last: Option<Kind>) -> Result<Option<Line>, Li
     requires { reader.old.line ≤ reader.old.at + 1 }
     ensures said { NextSaid reader.old reader.new last result }
     ensures same { reader.new.bytes.now ≡ reader.old.bytes.now }
+    ensures low { reader.new.line ≤ reader.new.at + 1 }
 {
     let number = reader.line;
     let Some(line) = reader.next_line() else {
-        if reached(last) < 8 {
-            return Err(LineRefusal {
-                line: number,
-                refusal: refused(Row::Letter, 1),
-            });
+        if reached(last) < Stage::Ceiling {
+            return Err(LineRefusal::at(number, Row::Letter, 1));
         }
         return Ok(None);
     };
-    match read_line(last, line) {
-        Ok(x) => Ok(Some(x)),
-        Err(refusal) => Err(LineRefusal {
+    read_line(last, line)
+        .map(Some)
+        .map_err(|refusal| LineRefusal {
             line: number,
             refusal,
-        }),
+        })
+}
+
+impl<'a> Lines<'a> {
+    // The lines of a sheet, or the refusal of its size.
+    fn of(sheet: &'a [u8]) -> Result<Lines<'a>, LineRefusal>
+        ensures { Opened sheet.now result }
+    {
+        if sheet.len() > SIZE {
+            return Err(LineRefusal::at(0, Row::Limit, 0));
+        }
+        Ok(Lines {
+            reader: Reader::over(sheet),
+            last: None,
+            refused: false,
+        })
+    }
+}
+
+impl Iterator for Lines<'_> {
+    type Item = Result<Line, LineRefusal>;
+
+    ghost next_gives = { LinesNext };
+
+    ghost remaining = { λ lines. at_most (lines_left lines) };
+
+    fn next(&mut self) -> Option<Result<Line, LineRefusal>> {
+        if self.refused {
+            return None;
+        }
+        match next_said(&mut self.reader, self.last) {
+            Ok(None) => None,
+            Ok(Some(line)) => {
+                self.last = Some(Kind::from(line));
+                Some(Ok(line))
+            }
+            Err(refusal) => {
+                self.refused = true;
+                Some(Err(refusal))
+            }
+        }
     }
 }
 
@@ -43,17 +82,9 @@ fn next_said(reader: &mut Reader, last: Option<Kind>) -> Result<Option<Line>, Li
 pub fn check_form(sheet: &[u8]) -> Result<usize, LineRefusal>
     ensures { Checked sheet.now result }
 {
-    if sheet.len() > SIZE {
-        return Err(LineRefusal {
-            line: 0,
-            refusal: refused(Row::Limit, 0),
-        });
-    }
-    let mut reader = Reader::over(sheet);
-    let mut last = None;
     let mut count = 0;
-    while let Some(line) = next_said(&mut reader, last)? {
-        last = Some(line.kind());
+    for line in Lines::of(sheet)? {
+        line?;
         count += 1;
     }
     Ok(count)
@@ -61,29 +92,24 @@ pub fn check_form(sheet: &[u8]) -> Result<usize, LineRefusal>
 
 // The lines that a sheet of good form says, in their order: line i of the sheet is entry i - 1.
 pub fn read_sheet(heap: Global, sheet: &[u8]) -> Result<Vec<Line>, Unread>
-    ensures { elim result [ Ok v ↦ Good sheet.now v.items | Err e ↦ Unreadable sheet.now e ] }
+    ensures { MatchResult result (λ v. Good sheet.now v.items) (Unreadable sheet.now) }
 {
     let count = check_form(sheet)?;
     let mut said = Vec::with_capacity(heap, count)?;
-    let mut reader = Reader::over(sheet);
-    let mut last = None;
-    while let Some(line) = next_said(&mut reader, last)? {
-        last = Some(line.kind());
-        said.push(line)?;
+    for line in Lines::of(sheet)? {
+        said.push(line?)?;
     }
     Ok(said)
 }
 
 // The form check's answer is the only one: good form and refusal exclude each other, a sheet says one list of lines,
 // is refused in one way, and a line's rows are checked in the table's order.
-pub fn form_is_decided() -> u8
+pub fn form_is_decided()
     ensures not_both { NotBoth }
     ensures one_reading { OneReading }
     ensures one_refusal { OneRefusal }
     ensures ordered { RowsInOrder }
-{
-    0
-}
+{}
 
 impl From<LineRefusal> for Unread {
     ghost from_gives = { λ f r. r ≡ Form f };

@@ -1,223 +1,139 @@
 // A line's letter: which it is, where it may stand, and the reader of the words behind it.
-ghost use Rattle.std.specs.Prelude.{◌≡◌, true, false};
-ghost use Rattle.sheet.specs.declared.Kind.TheVariants.{Grid, Sites, Link, Earth, Merge, Cut, Height, Ceiling, Drop, Fire, Run, Wave, Close, Shelve, Resume};
-ghost use Rattle.sheet.specs.Letters.{stage, reached, behind, May};
-ghost use Rattle.sheet.specs.Reading.{Known, Apart, LineRead};
+ghost use Rattle.std.specs.Prelude.{◌≡◌, ◌↔◌, IsTrue, Some};
+ghost use Rattle.sheet.specs.Letters.{Known, stage, reached, behind, May};
+ghost use Rattle.sheet.specs.Report.{unknown_letter};
+ghost use Rattle.sheet.specs.Reading.{Apart, IsSpan, LineRead};
 
 use super::reader::Reader;
-use super::{Kind, Line};
+use super::{Kind, Line, UnknownLetter};
+use std::error::Error;
+use std::fmt;
+use std::ops::RangeInclusive;
 
-// The letter that a character is, if any.
-fn kind_of(letter: char) -> Option<Kind>
-    ensures { Known letter result }
-{
-    match letter {
-        'g' => Some(Kind::Grid),
-        'n' => Some(Kind::Sites),
-        'l' => Some(Kind::Link),
-        'e' => Some(Kind::Earth),
-        'm' => Some(Kind::Merge),
-        'c' => Some(Kind::Cut),
-        'h' => Some(Kind::Height),
-        'k' => Some(Kind::Ceiling),
-        'd' => Some(Kind::Drop),
-        'f' => Some(Kind::Fire),
-        'r' => Some(Kind::Run),
-        'w' => Some(Kind::Wave),
-        's' => Some(Kind::Close),
-        'p' => Some(Kind::Shelve),
-        'u' => Some(Kind::Resume),
-        _ => None,
+// The letter that a character is.
+impl TryFrom<char> for Kind {
+    type Error = UnknownLetter;
+
+    ghost try_from_gives = { Known };
+
+    fn try_from(letter: char) -> Result<Kind, UnknownLetter> {
+        match letter {
+            'g' => Ok(Kind::Grid),
+            'n' => Ok(Kind::Sites),
+            'l' => Ok(Kind::Link),
+            'e' => Ok(Kind::Earth),
+            'm' => Ok(Kind::Merge),
+            'c' => Ok(Kind::Cut),
+            'h' => Ok(Kind::Height),
+            'k' => Ok(Kind::Ceiling),
+            'd' => Ok(Kind::Drop),
+            'f' => Ok(Kind::Fire),
+            'r' => Ok(Kind::Run),
+            'w' => Ok(Kind::Wave),
+            's' => Ok(Kind::Close),
+            'p' => Ok(Kind::Shelve),
+            'u' => Ok(Kind::Resume),
+            _ => Err(UnknownLetter(letter)),
+        }
     }
 }
+
+impl fmt::Display for UnknownLetter {
+    ghost output = { λ e. Some (unknown_letter e) };
+
+    fn fmt<W: fmt::Write>(&self, f: &mut fmt::Formatter<W>) -> fmt::Result {
+        write!(f, "{} is no letter of a sheet", self.0)
+    }
+}
+
+impl Error for UnknownLetter {}
 
 // A line's letter and what stands behind the space after it; none where the first word is no known letter.
 pub(crate) fn apart(line: &[u8]) -> Option<(Kind, Option<&[u8]>)>
     ensures { Apart line.now result }
 {
-    match line {
-        [letter, b' ', rest @ ..] => match kind_of(*letter as char) {
-            Some(kind) => Some((kind, Some(rest))),
-            None => None,
-        },
-        [letter] => match kind_of(*letter as char) {
-            Some(kind) => Some((kind, None)),
-            None => None,
-        },
-        _ => None,
-    }
+    let (letter, rest) = match line {
+        [letter, b' ', rest @ ..] => (*letter, Some(rest)),
+        [letter] => (*letter, None),
+        _ => return None,
+    };
+    let kind = Kind::try_from(char::from(letter)).ok()?;
+    Some((kind, rest))
+}
+
+// How far a sheet has come: its start, then its letters in their order, the commands last.
+#[derive(Clone, Copy, PartialEq, Eq, PartialOrd, Ord, Debug)]
+pub(crate) enum Stage {
+    Start,
+    Sites,
+    Link,
+    Grid,
+    Earth,
+    Merge,
+    Cut,
+    Height,
+    Ceiling,
+    Command,
 }
 
 impl Kind {
     // Where the letter stands in a sheet.
-    fn stage(self) -> u8
+    fn stage(self) -> Stage
         ensures { result ≡ stage self }
     {
         match self {
-            Kind::Sites => 1,
-            Kind::Link => 2,
-            Kind::Grid => 3,
-            Kind::Earth => 4,
-            Kind::Merge => 5,
-            Kind::Cut => 6,
-            Kind::Height => 7,
-            Kind::Ceiling => 8,
-            Kind::Drop => 9,
-            Kind::Fire => 9,
-            Kind::Run => 9,
-            Kind::Wave => 9,
-            Kind::Close => 9,
-            Kind::Shelve => 9,
-            Kind::Resume => 9,
+            Kind::Sites => Stage::Sites,
+            Kind::Link => Stage::Link,
+            Kind::Grid => Stage::Grid,
+            Kind::Earth => Stage::Earth,
+            Kind::Merge => Stage::Merge,
+            Kind::Cut => Stage::Cut,
+            Kind::Height => Stage::Height,
+            Kind::Ceiling => Stage::Ceiling,
+            Kind::Drop
+            | Kind::Fire
+            | Kind::Run
+            | Kind::Wave
+            | Kind::Close
+            | Kind::Shelve
+            | Kind::Resume => Stage::Command,
         }
     }
 
-    // The first and the last stage that the letter may stand right behind.
-    fn behind(self) -> (u8, u8)
-        ensures { (result.0 ≡ (behind self).0) × (result.1 ≡ (behind self).1) }
+    // The stages that the letter may stand right behind.
+    fn behind(self) -> RangeInclusive<Stage>
+        ensures { IsSpan result (behind self) }
     {
         match self {
-            Kind::Sites => (0, 0),
-            Kind::Grid => (0, 0),
-            Kind::Link => (1, 2),
-            Kind::Earth => (1, 3),
-            Kind::Merge => (1, 4),
-            Kind::Cut => (1, 6),
-            Kind::Height => (1, 7),
-            Kind::Ceiling => (1, 7),
-            Kind::Drop => (8, 9),
-            Kind::Fire => (8, 9),
-            Kind::Run => (8, 9),
-            Kind::Wave => (8, 9),
-            Kind::Close => (8, 9),
-            Kind::Shelve => (8, 9),
-            Kind::Resume => (8, 9),
+            Kind::Sites | Kind::Grid => Stage::Start..=Stage::Start,
+            Kind::Link => Stage::Sites..=Stage::Link,
+            Kind::Earth => Stage::Sites..=Stage::Grid,
+            Kind::Merge => Stage::Sites..=Stage::Earth,
+            Kind::Cut => Stage::Sites..=Stage::Cut,
+            Kind::Height | Kind::Ceiling => Stage::Sites..=Stage::Height,
+            Kind::Drop
+            | Kind::Fire
+            | Kind::Run
+            | Kind::Wave
+            | Kind::Close
+            | Kind::Shelve
+            | Kind::Resume => Stage::Ceiling..=Stage::Command,
         }
     }
 
     // Whether the letter may stand right behind the last one, or at the start.
     pub(crate) fn may_follow(self, last: Option<Kind>) -> bool
-        ensures { (result ≡ true → May last self) × (result ≡ false → May last self → ⊥) }
+        ensures { IsTrue result ↔ May last self }
     {
-        let (from, to) = self.behind();
-        let reached = reached(last);
-        from <= reached && reached <= to
+        self.behind().contains(&reached(last))
     }
 }
 
 // The stage that a sheet has come to with its last letter.
-pub(crate) fn reached(last: Option<Kind>) -> u8
+pub(crate) fn reached(last: Option<Kind>) -> Stage
     ensures { result ≡ reached last }
 {
-    match last {
-        None => 0,
-        Some(kind) => kind.stage(),
-    }
-}
-
-fn read_grid(words: &mut Reader) -> Result<Line, usize>
-    ensures { LineRead Grid words.old result }
-{
-    let (rows, columns) = words.two()?;
-    Ok(Line::Grid { rows, columns })
-}
-
-fn read_sites(words: &mut Reader) -> Result<Line, usize>
-    ensures { LineRead Sites words.old result }
-{
-    let count = words.one()?;
-    Ok(Line::Sites { count })
-}
-
-fn read_link(words: &mut Reader) -> Result<Line, usize>
-    ensures { LineRead Link words.old result }
-{
-    let (site, end, links) = words.link()?;
-    Ok(Line::Link { site, end, links })
-}
-
-fn read_earth(words: &mut Reader) -> Result<Line, usize>
-    ensures { LineRead Earth words.old result }
-{
-    let site = words.one()?;
-    Ok(Line::Earth { site })
-}
-
-fn read_merge(words: &mut Reader) -> Result<Line, usize>
-    ensures { LineRead Merge words.old result }
-{
-    let (from, into) = words.two()?;
-    Ok(Line::Merge { from, into })
-}
-
-fn read_cut(words: &mut Reader) -> Result<Line, usize>
-    ensures { LineRead Cut words.old result }
-{
-    let (site, end, links) = words.link()?;
-    Ok(Line::Cut { site, end, links })
-}
-
-fn read_height(words: &mut Reader) -> Result<Line, usize>
-    ensures { LineRead Height words.old result }
-{
-    let (site, grains) = words.two()?;
-    Ok(Line::Height { site, grains })
-}
-
-fn read_ceiling(words: &mut Reader) -> Result<Line, usize>
-    ensures { LineRead Ceiling words.old result }
-{
-    let firings = words.one()?;
-    Ok(Line::Ceiling { firings })
-}
-
-fn read_drop(words: &mut Reader) -> Result<Line, usize>
-    ensures { LineRead Drop words.old result }
-{
-    let (site, grains) = words.two()?;
-    Ok(Line::Drop { site, grains })
-}
-
-fn read_fire(words: &mut Reader) -> Result<Line, usize>
-    ensures { LineRead Fire words.old result }
-{
-    let site = words.one()?;
-    Ok(Line::Fire { site })
-}
-
-fn read_run(words: &mut Reader) -> Result<Line, usize>
-    ensures { LineRead Run words.old result }
-{
-    let budget = words.one()?;
-    Ok(Line::Run { budget })
-}
-
-fn read_wave(words: &mut Reader) -> Result<Line, usize>
-    ensures { LineRead Wave words.old result }
-{
-    words.finish()?;
-    Ok(Line::Wave)
-}
-
-fn read_close(words: &mut Reader) -> Result<Line, usize>
-    ensures { LineRead Close words.old result }
-{
-    words.finish()?;
-    Ok(Line::Close)
-}
-
-fn read_shelve(words: &mut Reader) -> Result<Line, usize>
-    ensures { LineRead Shelve words.old result }
-{
-    words.finish()?;
-    Ok(Line::Shelve)
-}
-
-fn read_resume(words: &mut Reader) -> Result<Line, usize>
-    ensures { LineRead Resume words.old result }
-{
-    words.finish()?;
-    Ok(Line::Resume)
+    last.map_or(Stage::Start, Kind::stage)
 }
 
 // Hands the words behind a letter to that letter's reader.
@@ -225,20 +141,30 @@ pub(crate) fn read_words(kind: Kind, words: &mut Reader) -> Result<Line, usize>
     ensures { LineRead kind words.old result }
 {
     match kind {
-        Kind::Grid => read_grid(words),
-        Kind::Sites => read_sites(words),
-        Kind::Link => read_link(words),
-        Kind::Earth => read_earth(words),
-        Kind::Merge => read_merge(words),
-        Kind::Cut => read_cut(words),
-        Kind::Height => read_height(words),
-        Kind::Ceiling => read_ceiling(words),
-        Kind::Drop => read_drop(words),
-        Kind::Fire => read_fire(words),
-        Kind::Run => read_run(words),
-        Kind::Wave => read_wave(words),
-        Kind::Close => read_close(words),
-        Kind::Shelve => read_shelve(words),
-        Kind::Resume => read_resume(words),
+        Kind::Grid => words
+            .two()
+            .map(|(rows, columns)| Line::Grid { rows, columns }),
+        Kind::Sites => words.one().map(|count| Line::Sites { count }),
+        Kind::Link => words
+            .link()
+            .map(|(site, end, links)| Line::Link { site, end, links }),
+        Kind::Earth => words.one().map(|site| Line::Earth { site }),
+        Kind::Merge => words.two().map(|(from, into)| Line::Merge { from, into }),
+        Kind::Cut => words
+            .link()
+            .map(|(site, end, links)| Line::Cut { site, end, links }),
+        Kind::Height => words
+            .two()
+            .map(|(site, grains)| Line::Height { site, grains }),
+        Kind::Ceiling => words.one().map(|firings| Line::Ceiling { firings }),
+        Kind::Drop => words
+            .two()
+            .map(|(site, grains)| Line::Drop { site, grains }),
+        Kind::Fire => words.one().map(|site| Line::Fire { site }),
+        Kind::Run => words.one().map(|budget| Line::Run { budget }),
+        Kind::Wave => words.finish().map(|()| Line::Wave),
+        Kind::Close => words.finish().map(|()| Line::Close),
+        Kind::Shelve => words.finish().map(|()| Line::Shelve),
+        Kind::Resume => words.finish().map(|()| Line::Resume),
     }
 }

@@ -69,34 +69,27 @@ pub enum Unread {
     Memory,
 }
 
-impl Line {
-    // The letter that the line begins with.
-    pub fn kind(self) -> Kind
-        ensures { result ≡ kind self }
-    {
-        match self {
-            Line::Grid {
-                rows: _,
-                columns: _,
-            } => Kind::Grid,
-            Line::Sites { count: _ } => Kind::Sites,
-            Line::Link {
-                site: _,
-                end: _,
-                links: _,
-            } => Kind::Link,
-            Line::Earth { site: _ } => Kind::Earth,
-            Line::Merge { from: _, into: _ } => Kind::Merge,
-            Line::Cut {
-                site: _,
-                end: _,
-                links: _,
-            } => Kind::Cut,
-            Line::Height { site: _, grains: _ } => Kind::Height,
-            Line::Ceiling { firings: _ } => Kind::Ceiling,
-            Line::Drop { site: _, grains: _ } => Kind::Drop,
-            Line::Fire { site: _ } => Kind::Fire,
-            Line::Run { budget: _ } => Kind::Run,
+// A character that is no letter of a sheet.
+#[derive(Clone, Copy, PartialEq, Eq, Debug)]
+pub struct UnknownLetter(pub char);
+
+// The letter that a line begins with.
+impl From<Line> for Kind {
+    ghost from_gives = { λ line letter. letter ≡ kind line };
+
+    fn from(line: Line) -> Kind {
+        match line {
+            Line::Grid { .. } => Kind::Grid,
+            Line::Sites { .. } => Kind::Sites,
+            Line::Link { .. } => Kind::Link,
+            Line::Earth { .. } => Kind::Earth,
+            Line::Merge { .. } => Kind::Merge,
+            Line::Cut { .. } => Kind::Cut,
+            Line::Height { .. } => Kind::Height,
+            Line::Ceiling { .. } => Kind::Ceiling,
+            Line::Drop { .. } => Kind::Drop,
+            Line::Fire { .. } => Kind::Fire,
+            Line::Run { .. } => Kind::Run,
             Line::Wave => Kind::Wave,
             Line::Close => Kind::Close,
             Line::Shelve => Kind::Shelve,

@@ -1,6 +1,5 @@
 // One line: its bytes, its letter in its order, and the words behind it.
-ghost use Rattle.std.specs.Prelude.{◌≡◌, ℕ, ◌≤◌, true, false, List, [], length, Some, None, Ok, Err};
-ghost use Rattle.refusal.specs.declared.Part.TheVariants.{Sheet};
+ghost use Rattle.std.specs.Prelude.{◌≡◌, ℕ, ◌≤◌, ◌↔◌, IsTrue, List, [], length, MatchOption};
 ghost use Rattle.sheet.specs.Letters.{Head};
 ghost use Rattle.sheet.specs.Reading.{raw, AllPlain, rest_words, Few, words_ahead, WordsSaid, LetterFirst, Verdict};
 ghost use Rattle.sheet.specs.Form.{Plain, BadByte};
@@ -12,31 +11,21 @@ use refusal::{Part, Refusal, Row};
 
 // Whether a line may hold the byte.
 fn is_plain(b: u8) -> bool
-    ensures { (result ≡ true → Plain b) × (result ≡ false → Plain b → ⊥) }
+    ensures { IsTrue result ↔ Plain b }
 {
-    match b {
-        b'a'..=b'z' => true,
-        b'0'..=b'9' => true,
-        b' ' => true,
-        b'*' => true,
-        _ => false,
-    }
+    matches!(b, b'a'..=b'z' | b'0'..=b'9' | b' ' | b'*')
 }
 
 // The column of the first byte that no line may hold, or where byte 10 is missing.
 fn bad_byte(line: RawLine) -> Option<usize>
     requires { length line.bytes.now ≤ 65536 }
-    ensures { elim result [ Some c ↦ BadByte (raw line.entry) c | None ↦ AllPlain (raw line.entry) ] }
+    ensures { MatchOption result (AllPlain (raw line.entry)) (BadByte (raw line.entry)) }
 {
-    for (i, b) in line.bytes.iter().enumerate() {
-        if !is_plain(*b) {
-            return Some(i + 1);
-        }
+    match line.bytes.iter().position(|b| !is_plain(*b)) {
+        Some(i) => Some(i + 1),
+        None if line.ended => None,
+        None => Some(line.bytes.len() + 1),
     }
-    if line.ended {
-        return None;
-    }
-    Some(line.bytes.len() + 1)
 }
 
 impl<'a> Reader<'a> {
@@ -45,19 +34,15 @@ impl<'a> Reader<'a> {
         requires { (line ≤ 65537) × (Few rest 65536) }
         ensures { (words_ahead result ≡ rest_words rest.entry) × (result.column ≡ 3) }
     {
-        match rest {
-            Some(bytes) => Reader {
-                bytes,
-                at: 0,
-                line,
-                column: 3,
-            },
-            None => Reader {
-                bytes: &[],
-                at: 1,
-                line,
-                column: 3,
-            },
+        let (bytes, at) = match rest {
+            Some(bytes) => (bytes, 0),
+            None => (&[][..], 1),
+        };
+        Reader {
+            bytes,
+            at,
+            line,
+            column: 3,
         }
     }
 }
@@ -68,10 +53,10 @@ pub(crate) fn read_line(last: Option<Kind>, line: RawLine) -> Result<Line, Refus
     ensures { Verdict last (raw line.entry) result }
 {
     if let Some(column) = bad_byte(line) {
-        return Err(refused(Row::Byte, column));
+        return Err(Part::Sheet.refuse_at(Row::Byte, column));
     }
     let Some((kind, rest)) = apart(line.bytes) else {
-        return Err(refused(Row::Letter, 1));
+        return Err(Part::Sheet.refuse_at(Row::Letter, 1));
     };
     letter_first(kind.may_follow(last), said(line, kind, rest))
 }
@@ -81,12 +66,9 @@ fn letter_first(in_order: bool, said: Result<Line, usize>) -> Result<Line, Refus
     ensures { LetterFirst in_order said result }
 {
     if !in_order {
-        return Err(refused(Row::Letter, 1));
+        return Err(Part::Sheet.refuse_at(Row::Letter, 1));
     }
-    match said {
-        Ok(x) => Ok(x),
-        Err(column) => Err(refused(Row::Word, column)),
-    }
+    said.map_err(|column| Part::Sheet.refuse_at(Row::Word, column))
 }
 
 // What the words behind a line's letter say, or the column where they fail.
@@ -97,15 +79,4 @@ fn said(line: RawLine, kind: Kind, rest: Option<&[u8]>) -> Result<Line, usize>
 {
     let mut words = Reader::behind_letter(rest, line.number);
     read_words(kind, &mut words)
-}
-
-// A refusal of the sheet.
-pub(crate) fn refused(row: Row, place: usize) -> Refusal
-    ensures { (result.row ≡ row) × (result.place ≡ place) × (result.part ≡ Sheet) }
-{
-    Refusal {
-        row,
-        place: place as u64,
-        part: Part::Sheet,
-    }
 }

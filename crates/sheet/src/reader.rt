@@ -3,6 +3,8 @@ ghost use Rattle.std.specs.Prelude.{◌+◌, ◌≤◌, length};
 
 mod steps;
 
+use super::Kind;
+
 #[derive(Drop)]
 pub(crate) struct Reader<'a> {
     pub(crate) bytes: &'a [u8],
@@ -16,7 +18,16 @@ pub(crate) struct Reader<'a> {
     ghost along: { column ≤ at + 3 },
 }
 
-// A line as it stands in the sheet: its bytes, its number, and whether byte 10 ends it.
+// The lines that a sheet's reader has before it, behind the last letter; none once one was refused.
+#[derive(Drop)]
+pub(crate) struct Lines<'a> {
+    pub(crate) reader: Reader<'a>,
+    pub(crate) last: Option<Kind>,
+    pub(crate) refused: bool,
+    ghost low: { reader.line ≤ reader.at + 1 },
+}
+
+// A line as it stands in the sheet: its bytes, its number, and whether byte 10 ends it. A flag, as the bytes are read either way.
 #[derive(Clone, Copy)]
 pub(crate) struct RawLine<'a> {
     pub(crate) bytes: &'a [u8],

@@ -1,8 +1,7 @@
 // The words behind a line's letter: numbers, the drain, and the line's end.
-ghost use Rattle.std.specs.Prelude.{◌≡◌, ℕ, List, [], ◌∷◌, Some, None, Ok, Err};
+ghost use Rattle.std.specs.Prelude.{◌≡◌, ℕ, List, [], ◌∷◌, MatchOption, MatchResult};
 ghost use Rattle.std.specs.Str.Parse.{digits_value};
 ghost use Rattle.sheet.specs.Parts.{Number};
-ghost use Rattle.sheet.specs.Reading.{Short};
 ghost use Rattle.sheet.specs.Letters.{far, amount, end_value};
 ghost use Rattle.sheet.specs.Letters.{number as a_number};
 ghost use Rattle.sheet.specs.Reading.{Took, Fails, WordsRead};
@@ -12,66 +11,40 @@ use board::End;
 
 // A number's value; none where the word is not 1 to 13 digits or has a leading 0.
 fn decimal(word: &[u8]) -> Option<u64>
-    ensures { elim result [ Some n ↦ Number word.now × (n ≡ digits_value 10 word.now) | None ↦ (Number word.now → ⊥) ] }
+    ensures { MatchOption result (¬ Number word.now) (λ n. Number word.now × (n ≡ digits_value 10 word.now)) }
 {
-    if word.len() == 0 || word.len() > 13 {
-        return None;
+    match word {
+        [b'0'] => Some(0),
+        [b'1'..=b'9', ..] if word.len() <= 13 => str::from_utf8(word).ok()?.parse().ok(),
+        _ => None,
     }
-    if word.len() > 1 && word[0] == b'0' {
-        return None;
-    }
-    digits_value(word)
-}
-
-// The value of up to 13 digits; none where another byte stands among them.
-fn digits_value(word: &[u8]) -> Option<u64>
-    requires { Short word.now }
-    ensures { elim result [ Some n ↦ Number word.now × (n ≡ digits_value 10 word.now) | None ↦ (Number word.now → ⊥) ] }
-{
-    let mut n: u64 = 0;
-    for b in word {
-        let c = *b;
-        if c < b'0' || c > b'9' {
-            return None;
-        }
-        n = n * 10 + (c - b'0') as u64;
-    }
-    Some(n)
 }
 
 impl Reader<'_> {
     // The next word as a number, or the column where it fails.
     fn number(&mut self) -> Result<u64, usize>
-        ensures { elim result [ Ok n ↦ Took self.old self.new (amount n) | Err x ↦ Fails a_number self.old x ] }
+        ensures { MatchResult result (λ n. Took self.old self.new (amount n)) (Fails a_number self.old) }
     {
         match self.word()? {
-            Word::Number(part, place) => match decimal(part) {
-                Some(n) => Ok(n),
-                None => Err(place.column),
-            },
-            Word::Drain(_, place) => Err(place.column),
-            Word::Letter(_, place) => Err(place.column),
+            Word::Number(part, place) => decimal(part).ok_or(place.column),
+            Word::Drain(_, place) | Word::Letter(_, place) => Err(place.column),
         }
     }
 
     // The next word as a link's far end, or the column where it fails.
     fn far_end(&mut self) -> Result<End, usize>
-        ensures { elim result [ Ok e ↦ Took self.old self.new (end_value e) | Err x ↦ Fails far self.old x ] }
+        ensures { MatchResult result (λ e. Took self.old self.new (end_value e)) (Fails far self.old) }
     {
         match self.word()? {
-            Word::Number(part, place) => match decimal(part) {
-                Some(n) => Ok(End::Site(n as usize)),
-                None => Err(place.column),
-            },
-            Word::Drain(part, place) => {
-                if part.len() > 1 {
-                    return Err(place.column);
-                }
-                Ok(End::Drain)
+            Word::Number(part, place) => {
+                let n = decimal(part).ok_or(place.column)?;
+                Ok(End::Site(n as usize))
             }
-            Word::Letter(_, place) => Err(place.column),
+            Word::Drain([_], _) => Ok(End::Drain),
+            Word::Drain(_, place) | Word::Letter(_, place) => Err(place.column),
         }
     }
+
     // Nothing where no word is left, or the column of the surplus one.
     pub(crate) fn finish(&mut self) -> Result<(), usize>
         ensures { WordsRead self.old [] result (λ _. []) }

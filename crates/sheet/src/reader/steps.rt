@@ -5,22 +5,6 @@ ghost use Rattle.sheet.specs.Reading.{NextLine, NextWord};
 
 use super::{Place, RawLine, Reader, Word};
 
-// The first place from `from` on where `stop` stands, or the end.
-fn find(bytes: &[u8], from: usize, stop: u8) -> usize
-    requires { from ≤ length bytes.now }
-    ensures low { from ≤ result }
-    ensures high { result ≤ length bytes.now }
-    ensures free { (k : ℕ) → from ≤ k → k < result → slice_index bytes.now k ≢ stop }
-    ensures stops { result < length bytes.now → slice_index bytes.now result ≡ stop }
-{
-    for i in from..bytes.len() {
-        if bytes[i] == stop {
-            return i;
-        }
-    }
-    bytes.len()
-}
-
 impl<'a> Reader<'a> {
     // A reader at the start of a sheet.
     pub(crate) fn over(bytes: &'a [u8]) -> Reader<'a>
@@ -42,15 +26,17 @@ impl<'a> Reader<'a> {
         ensures moved { self.new.at ≡ self.old.at + length result.now + 1 }
         ensures same { (self.new.bytes.now ≡ self.old.bytes.now) × ((self.new.line ≡ self.old.line) × (self.new.column ≡ self.old.column)) }
     {
-        let from = self.at;
-        let end = find(self.bytes, from, stop);
-        self.at = end + 1;
-        &self.bytes[from..end]
+        let rest = &self.bytes[self.at..];
+        let end = rest.iter().position(|b| *b == stop).unwrap_or(rest.len());
+        self.at += end + 1;
+        &rest[..end]
     }
+
     // The next line, where one is left.
     pub(crate) fn next_line(&mut self) -> Option<RawLine<'a>>
         ensures taken { NextLine self.old self.new result }
         ensures same { self.new.bytes.now ≡ self.old.bytes.now }
+        ensures low { self.old.line ≤ self.old.at + 1 → self.new.line ≤ self.new.at + 1 }
     {
         if self.at >= self.bytes.len() {
             return None;

@@ -1,12 +1,7 @@
-use Rattle.std.proofs.Common.{List, sym, refl, subst, inl, rules}
-use Rattle.sheet.specs.Parts.{Raw}
-use Rattle.sheet.specs.Form.{FirstBad}
+use Rattle.std.proofs.Common.{rules}
+use Rattle.sheet.proofs.Verdicts.{next_from}
 use Rattle.sheet.proofs.form.next_said.Goals as goal
 
-pub returns-in-Err : goal.returns-in-Err
-returns-in-Err c =
-    let taken = c.in-Some.ensures in
-    record {
-      said = subst (λ (ls : List Raw). FirstBad c.args.last c.args.reader.now.line ls record { line = c.args.reader.now.line; refusal = c.in-Err.refusal }) (sym taken.taken.ahead) (inl (c.in-Err.ensures, refl));
-      same = search rules;
-    }
+pub returns-clause-said : goal.returns-clause-said
+returns-clause-said c =
+    next_from c.args.last c.in-Some.line c.read_line.result c.map.result c.map_err.result _ _ c.in-Some.ensures.taken c.read_line.ensures c.map.ensures.cases c.map_err.ensures.cases (λ x y h. search rules) (λ e f h. search rules)

@@ -1,9 +1,10 @@
-use Rattle.std.proofs.Common.{◌+◌, ◌-◌, length, vec_items}
+use Rattle.std.proofs.Common.{◌≡◌, false}
 use Rattle.sheet.proofs.Verdicts.{Come}
 use Rattle.sheet.proofs.form.read_sheet.Given as goal
 
-abbrev pub invariant-loop-said : goal.invariant-loop-said
-invariant-loop-said l = Come l.sheet l.reader l.last (vec_items l.said)
-
-abbrev pub decreases-loop-said : goal.decreases-loop-said
-decreases-loop-said l = length l.sheet + 1 - l.reader.at
+abbrev pub invariant-loop-line : goal.invariant-loop-line
+invariant-loop-line l =
+    (goal.iterator-loop-line).can_next l.line-iterator
+    × (goal.iterator-loop-line).is_finite l.line-iterator
+    × (l.line-iterator.refused ≡ false)
+    × Come l.sheet l.line-iterator.reader l.line-iterator.last l.said.items
