@@ -1,5 +1,5 @@
 -- What is left to show of `next_neighbour`.
-use Rattle.std.proofs.Common.{◌≡◌, ℕ, ◌+◌, ◌-◌, ◌*◌, ◌<◌, ◌≤◌, ◌%◌, nat_le, List, [], ◌∷◌, Some, None, Option, sym, ◌∙◌, rules, tests}
+use Rattle.std.proofs.Common.{◌≡◌, ℕ, ◌+◌, ◌-◌, ◌*◌, ◌<◌, nat_le, List, [], ◌∷◌, Option, sym, ◌∙◌, rules, tests}
 use Rattle.std.specs.List.{find, flat_map}
 use Rattle.std.specs.Option.{SomeIff, option_to_list}
 use Rattle.std.proofs.lemmas.Iterator.Consumers.{YieldsList-at}
