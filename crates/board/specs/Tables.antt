@@ -1,10 +1,13 @@
 -- Sums over a table of links.
-use Rattle.std.specs.Prelude.{◌≡◌, ℕ, zero, suc, ◌+◌, ◌<◌, ◌≤◌, Bool, true, false, cond, not, ◌&&◌, ◌||◌, ◌⊎◌, List, length, get_or, Some, None, ◌==◌, ◌≢◌, nat_eq, nat_lt, slice_index_or, slice_set, refl}
+use Rattle.std.specs.Prelude.{◌≡◌, ℕ, zero, suc, ◌+◌, ◌<◌, ◌≤◌, Bool, true, false, cond, not, ◌&&◌, ◌||◌, ◌⊎◌, List, [], ◌∷◌, ◌++◌, length, take, sum_by, get_or, Some, None, ◌==◌, ◌≢◌, nat_eq, nat_lt, slice_index_or, slice_set, refl}
 use Rattle.std.proofs.Common.{sym, ◌∙◌, inl, inr, add-one, arith, get_or-set_same, get_or-set_other}
 use Rattle.std.proofs.Math.Path.{ap}
+use Rattle.std.proofs.Math.Seq.{get_or-append_seam}
+use Rattle.std.proofs.lemmas.List.{take_all, length-append, get_or_append_left}
+use Rattle.std.proofs.lemmas.List.Sums.{fold_more, sum_by_push}
 use Rattle.std.proofs.lemmas.Bool.{cases_lt, cases_eq, cases_Bool, and_left, and_right, cond-true, cond-false, and_parts, not-true, ltb-true, eqb-true, eqb-false, eq-eqb, ne_eqb, and_from, lt-ltb, not_from_false, or_cases, false≢true}
 use Rattle.board.specs.Shape.{sum_below}
-use Rattle.board.specs.Sums.{sum_suc, sum_same, sum_none, sum_plus, sum_swap, sum_at, sum_more, sum_const, sum_term}
+use Rattle.board.specs.Sums.{sum_suc, sum_same, sum_none, sum_plus, sum_swap, sum_at, sum_const, sum_term}
 use Rattle.board.specs.declared.link.End.{End}
 use Rattle.board.specs.declared.link.End.TheVariants.{Site, Drain}
 use Rattle.board.specs.declared.link.Link.{Link}
@@ -119,16 +122,45 @@ pub grow_s : (xs : List Link) (k : ℕ) (l : Link) → k < length xs → (v : �
 unfolding s_of
 grow_s xs k l h v = grow (λ x. to_drain x v) xs k l h
 
-pub grow_weight : (xs : List Link) (k : ℕ) (l : Link) → k < length xs → weights (slice_set xs k l) (k + 1) ≡ weights xs k + weight l.other l.count
-unfolding weights
-grow_weight xs k l h = grow (λ x. weight x.other x.count) xs k l h
+-- a whole table
+sum_front : (f : Link → ℕ) (xs : List Link) (k : ℕ) → k ≤ length xs → sum_below k (λ i. f (slice_index_or xs i no_link)) ≡ sum_by f (take k xs)
+unfolding sum_below
+sum_front f xs zero h = refl
+sum_front f xs (suc k) h =
+    let next : k + 1 ≡ suc k = add-one k in
+    omega (arith, sum_front f xs k (omega arith), fold_more (λ a x. a + f x) 0 xs k no_link (omega arith), ap (λ n. sum_by f (take n xs)) next)
 
-pub grow_fit : (xs : List Link) (k n : ℕ) (l : Link) → k < length xs → FitsAll xs k n → Fit n l.site l.other → 1 ≤ l.count → FitsAll (slice_set xs k l) (k + 1) n
-grow_fit xs k n l h all fit one i less = elim (cases_lt i k) [
-  | inl lt ↦ let at : get_or (slice_set xs k l) i no_link ≡ get_or xs i no_link = get_or-set_other xs k i l no_link (omega arith) in rw at (all i lt)
+sum_whole : (f : Link → ℕ) (xs : List Link) → sum_below (length xs) (λ i. f (slice_index_or xs i no_link)) ≡ sum_by f xs
+sum_whole f xs = sum_front f xs (length xs) (omega arith) ∙ ap (sum_by f) (take_all (length xs) xs (omega arith))
+
+pub m_of_whole : (xs : List Link) (u v : ℕ) → m_of xs (length xs) u v ≡ sum_by (λ l. between l u v) xs
+unfolding m_of
+m_of_whole xs u v = sum_whole (λ l. between l u v) xs
+
+pub s_of_whole : (xs : List Link) (v : ℕ) → s_of xs (length xs) v ≡ sum_by (λ l. to_drain l v) xs
+unfolding s_of
+s_of_whole xs v = sum_whole (λ l. to_drain l v) xs
+
+weights_whole : (xs : List Link) → weights xs (length xs) ≡ sum_by (λ l. weight l.other l.count) xs
+unfolding weights
+weights_whole xs = sum_whole (λ l. weight l.other l.count) xs
+
+-- a table and one record more
+pub m_of_push : (xs : List Link) (l : Link) (u v : ℕ) → m_of (xs ++ l ∷ []) (length (xs ++ l ∷ [])) u v ≡ m_of xs (length xs) u v + between l u v
+m_of_push xs l u v = omega (arith, m_of_whole (xs ++ l ∷ []) u v, m_of_whole xs u v, sum_by_push (λ x. between x u v) xs l)
+
+pub s_of_push : (xs : List Link) (l : Link) (v : ℕ) → s_of (xs ++ l ∷ []) (length (xs ++ l ∷ [])) v ≡ s_of xs (length xs) v + to_drain l v
+s_of_push xs l v = omega (arith, s_of_whole (xs ++ l ∷ []) v, s_of_whole xs v, sum_by_push (λ x. to_drain x v) xs l)
+
+pub weights_push : (xs : List Link) (l : Link) → weights (xs ++ l ∷ []) (length (xs ++ l ∷ [])) ≡ weights xs (length xs) + weight l.other l.count
+weights_push xs l = omega (arith, weights_whole (xs ++ l ∷ []), weights_whole xs, sum_by_push (λ x. weight x.other x.count) xs l)
+
+pub fits_push : (xs : List Link) (n : ℕ) (l : Link) → FitsAll xs (length xs) n → Fit n l.site l.other → 1 ≤ l.count → FitsAll (xs ++ l ∷ []) (length (xs ++ l ∷ [])) n
+fits_push xs n l all fit one i less = elim (cases_lt i (length xs)) [
+  | inl lt ↦ let at : get_or (xs ++ l ∷ []) i no_link ≡ get_or xs i no_link = get_or_append_left xs (l ∷ []) no_link i lt in rw at (all i lt)
   | inr ge ↦
-      let same : i ≡ k = omega arith in
-      let at : get_or (slice_set xs k l) i no_link ≡ l = ap (λ j. get_or (slice_set xs k l) j no_link) same ∙ get_or-set_same xs k l no_link h in
+      let same : i ≡ length xs = omega (arith, length-append xs (l ∷ [])) in
+      let at : get_or (xs ++ l ∷ []) i no_link ≡ l = ap (λ j. get_or (xs ++ l ∷ []) j no_link) same ∙ get_or-append_seam xs l [] no_link in
       (ap (λ (x : Link). fits n x.site x.other) at ∙ fit_fits n l.site l.other fit, omega (arith, ap (λ (x : Link). x.count) at))
 ]
 
@@ -152,14 +184,6 @@ m_of_more xs k u v = sum_suc k _
 pub s_of_more : (xs : List Link) (k v : ℕ) → s_of xs (k + 1) v ≡ s_of xs k v + to_drain (slice_index_or xs k no_link) v
 unfolding s_of
 s_of_more xs k v = sum_suc k _
-
-pub m_of_up : (xs : List Link) (i k u v : ℕ) → i ≤ k → m_of xs i u v ≤ m_of xs k u v
-unfolding m_of
-m_of_up xs i k u v h = sum_more i k _ h
-
-pub s_of_up : (xs : List Link) (i k v : ℕ) → i ≤ k → s_of xs i v ≤ s_of xs k v
-unfolding s_of
-s_of_up xs i k v h = sum_more i k _ h
 
 -- a record that fits has no loop, and nothing off the board
 between_not : (n a c : ℕ) (b : End) → Fit n a b → (u v : ℕ) → ((u ≡ v) ⊎ (n ≤ v)) → cond (joins a b u v) c 0 ≡ 0

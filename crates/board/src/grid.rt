@@ -3,7 +3,7 @@ ghost use Rattle.std.specs.Prelude.{◌≡◌, ℕ, ◌*◌, ◌<◌, ◌≤◌,
 ghost use Rattle.refusal.specs.declared.Part.TheVariants as parts;
 ghost use Rattle.refusal.specs.Table.{Passed, Refused, InOrder, rows as rows_of_lem};
 ghost use Rattle.board.specs.Shape.{NextIs};
-ghost use Rattle.board.specs.Grids.{grid_of, grid_checks, neighbours as near, one_apart, one, missing as lacks, Placed};
+ghost use Rattle.board.specs.Grids.{grid_of, grid_checks, row_of, column_of, neighbours as near, Placed};
 ghost use Rattle.board.specs.GridsLemmas.{grid_sound};
 
 use crate::Board;
@@ -22,12 +22,8 @@ impl Grid {
     pub fn new(rows: usize, columns: usize) -> Result<Grid, Refusal>
         ensures { elim result [ Ok g ↦ Passed (grid_checks rows columns) × (g.rows ≡ rows) × (g.columns ≡ columns) × (grid_of g.rows g.columns ≡ grid_of rows columns) × Placed rows columns | Err e ↦ Refused (grid_checks rows columns) parts.Board e ] }
     {
-        if rows < 1 || rows > 64 || columns < 1 || columns > 64 {
-            return Err(Refusal {
-                row: Row::Limit,
-                place: 0,
-                part: Part::Board,
-            });
+        if !(1..=64).contains(&rows) || !(1..=64).contains(&columns) {
+            return Err(Part::Board.refuse(Row::Limit));
         }
         Ok(Grid { rows, columns })
     }
@@ -38,50 +34,50 @@ impl Grid {
     {
         [Row::Limit]
     }
+
+    // The place of the site `v`, which is on the grid.
+    fn place(&self, v: usize) -> Place
+        requires { v < self.now.rows * self.now.columns }
+        ensures { (result.row ≡ row_of self.now.columns v) × (result.column ≡ column_of self.now.columns v) × (result.row < self.now.rows) × (result.column < self.now.columns) }
+    {
+        Place {
+            row: v / self.columns,
+            column: v % self.columns,
+        }
+    }
+
+    // The least neighbour from `j` on of the site `v`, which is on the grid.
+    fn next_neighbour(&self, v: usize, j: usize) -> Option<usize>
+        requires { v < self.now.rows * self.now.columns }
+        ensures { NextIs (grid_of self.now.rows self.now.columns) v j result }
+    {
+        let column = self.place(v).column;
+        let above = v.checked_sub(self.columns);
+        let left = (column > 0).then(|| v - 1);
+        let right = (column + 1 < self.columns).then_some(v + 1);
+        let under = (v + self.columns < self.rows * self.columns).then_some(v + self.columns);
+        [above, left, right, under]
+            .into_iter()
+            .flatten()
+            .find(|u| *u >= j)
+    }
 }
 
-// Whether two numbers are one apart.
-fn is_one_apart(a: usize, b: usize) -> bool
-    requires { (a ≤ 4096) × (b ≤ 4096) }
-    ensures { result ≡ one_apart a b }
-{
-    a + 1 == b || b + 1 == a
+// A row and a column of a grid.
+#[derive(Clone, Copy)]
+struct Place {
+    row: usize,
+    column: usize,
 }
 
-// Whether row `r`, column `c` and row `p`, column `q` are neighbours.
-fn are_neighbours(r: usize, c: usize, p: usize, q: usize) -> bool
-    requires { (r ≤ 4096) × (c ≤ 4096) × (p ≤ 4096) × (q ≤ 4096) }
-    ensures { result ≡ near r c p q }
-{
-    r == p && is_one_apart(c, q) || c == q && is_one_apart(r, p)
-}
-
-// 1 where a test holds.
-fn one_if(test: bool) -> u32
-    ensures { result ≡ one test }
-{
-    if test { 1 } else { 0 }
-}
-
-// The least neighbour from `j` on of the site `v`, which is on the grid.
-fn next_neighbour(rows: usize, columns: usize, v: usize, j: usize) -> Option<usize>
-    requires { (1 ≤ rows) × (rows ≤ 64) × (1 ≤ columns) × (columns ≤ 64) × (v < rows * columns) }
-    ensures { NextIs (grid_of rows columns) v j result }
-{
-    if v >= columns && v - columns >= j {
-        return Some(v - columns);
+impl Place {
+    // Whether the two are neighbours: beside each other in a row, or in a column.
+    fn is_beside(self, other: Place) -> bool
+        ensures { result ≡ near self.row self.column other.row other.column }
+    {
+        self.row == other.row && self.column.abs_diff(other.column) == 1
+            || self.column == other.column && self.row.abs_diff(other.row) == 1
     }
-    let column = v % columns;
-    if column > 0 && v - 1 >= j {
-        return Some(v - 1);
-    }
-    if column + 1 < columns && v + 1 >= j {
-        return Some(v + 1);
-    }
-    if v + columns < rows * columns && v + columns >= j {
-        return Some(v + columns);
-    }
-    None
 }
 
 impl Board for Grid {
@@ -98,31 +94,25 @@ impl Board for Grid {
         if u >= n || v >= n {
             return 0;
         }
-        one_if(are_neighbours(
-            u / self.columns,
-            u % self.columns,
-            v / self.columns,
-            v % self.columns,
-        ))
+        u32::from(self.place(u).is_beside(self.place(v)))
     }
 
     fn drain(&self, v: usize) -> u32 {
         if v >= self.rows * self.columns {
             return 0;
         }
-        let row = v / self.columns;
-        let column = v % self.columns;
-        one_if(row == 0)
-            + one_if(row + 1 == self.rows)
-            + one_if(column == 0)
-            + one_if(column + 1 == self.columns)
+        let Place { row, column } = self.place(v);
+        u32::from(row == 0)
+            + u32::from(row + 1 == self.rows)
+            + u32::from(column == 0)
+            + u32::from(column + 1 == self.columns)
     }
 
     fn next(&self, v: usize, j: usize) -> Option<usize> {
         if v >= self.rows * self.columns {
             return None;
         }
-        next_neighbour(self.rows, self.columns, v, j)
+        self.next_neighbour(v, j)
     }
 
     fn degree(&self, v: usize) -> u32 {

@@ -37,6 +37,7 @@ pub trait Board {
         ensures { result ≡ deg (shape self.now) v }
     {
         let mut sum = self.drain(v);
+        // `Neighbours::of(self, v)` asks `Self: Sized`, and with that its call "passes on a bound that gives less than is asked".
         let mut j = 0;
         loop {
             let Some(u) = self.next(v, j) else { break };

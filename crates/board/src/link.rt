@@ -22,13 +22,10 @@ pub struct Link {
 pub fn links_of(l: Link, u: usize, v: usize) -> u32
     ensures { result ≡ between l u v }
 {
-    let End::Site(y) = l.other else {
-        return 0;
-    };
-    if l.site == u && y == v || l.site == v && y == u {
-        return l.count;
+    match l.other {
+        End::Site(y) if l.site == u && y == v || l.site == v && y == u => l.count,
+        _ => 0,
     }
-    0
 }
 
 // The links of `l` between `v` and the drain.
@@ -36,13 +33,8 @@ pub fn drain_of(l: Link, v: usize) -> u32
     ensures { result ≡ to_drain l v }
 {
     match l.other {
-        End::Site(_) => 0,
-        End::Drain => {
-            if l.site == v {
-                return l.count;
-            }
-            0
-        }
+        End::Drain if l.site == v => l.count,
+        _ => 0,
     }
 }
 
@@ -50,16 +42,11 @@ pub fn drain_of(l: Link, v: usize) -> u32
 pub fn far_end(l: Link, v: usize) -> Option<usize>
     ensures { result ≡ far l.site l.other v }
 {
-    let End::Site(y) = l.other else {
-        return None;
-    };
-    if l.site == v {
-        return Some(y);
+    match l.other {
+        End::Site(y) if l.site == v => Some(y),
+        End::Site(y) if y == v => Some(l.site),
+        _ => None,
     }
-    if y == v {
-        return Some(l.site);
-    }
-    None
 }
 
 // Whether `l` is of the ends `a` and `b`, either first.
@@ -69,8 +56,7 @@ pub fn is_alike(l: Link, a: usize, b: End) -> bool
     match (l.other, b) {
         (End::Site(y), End::Site(z)) => l.site == a && y == z || l.site == z && y == a,
         (End::Drain, End::Drain) => l.site == a,
-        (End::Site(_), End::Drain) => false,
-        (End::Drain, End::Site(_)) => false,
+        _ => false,
     }
 }
 
@@ -78,16 +64,11 @@ pub fn is_alike(l: Link, a: usize, b: End) -> bool
 pub fn misfit(n: usize, a: usize, b: End) -> Option<usize>
     ensures { Fitting n a b result }
 {
-    if a >= n {
-        return Some(a);
+    match b {
+        _ if a >= n => Some(a),
+        End::Site(y) if y >= n || y == a => Some(y),
+        _ => None,
     }
-    let End::Site(y) = b else {
-        return None;
-    };
-    if y >= n || y == a {
-        return Some(y);
-    }
-    None
 }
 
 // What `k` links to `b` add to the total: links of two sites count from each.
@@ -96,7 +77,7 @@ pub(crate) fn weight_of(b: End, k: u32) -> u32
     ensures { result ≡ weight b k }
 {
     match b {
-        End::Site(_) => k + k,
+        End::Site(_) => 2 * k,
         End::Drain => k,
     }
 }

@@ -14,7 +14,7 @@ after_last n v e = cond-true (v + 1 == n) 0 (v + 1) (eq-eqb (v + 1) n e)
 after_next : (n v : ℕ) → (v + 1 ≢ n) → after n v ≡ v + 1
 after_next n v e = cond-false (v + 1 == n) 0 (v + 1) (ne_eqb (v + 1) n e)
 
-after_is : (n v : ℕ) → ((v + 1 ≡ n) × (after n v ≡ 0)) ⊎ ((v + 1 ≢ n) × (after n v ≡ v + 1))
+pub after_is : (n v : ℕ) → ((v + 1 ≡ n) × (after n v ≡ 0)) ⊎ ((v + 1 ≢ n) × (after n v ≡ v + 1))
 after_is n v = elim (cases_eq (v + 1) n) [ inl e ↦ inl (e, after_last n v e) | inr e ↦ inr (e, after_next n v e) ]
 
 one_le : (t : Bool) → cond t 1 0 ≤ 1

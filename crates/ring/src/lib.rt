@@ -22,12 +22,8 @@ impl Ring {
     pub fn new(sites: usize) -> Result<Ring, Refusal>
         ensures { elim result [ Ok x ↦ Passed (ring_checks sites) × (x.sites ≡ sites) | Err e ↦ Refused (ring_checks sites) parts.Board e ] }
     {
-        if sites < 3 || sites > 4096 {
-            return Err(Refusal {
-                row: Row::Limit,
-                place: 0,
-                part: Part::Board,
-            });
+        if !(3..=4096).contains(&sites) {
+            return Err(Part::Board.refuse(Row::Limit));
         }
         Ok(Ring { sites })
     }
@@ -38,28 +34,29 @@ impl Ring {
     {
         [Row::Limit]
     }
-}
 
-// The site after `v`.
-fn site_after(n: usize, v: usize) -> usize
-    requires { v < n }
-    ensures { result ≡ after n v }
-{
-    if v + 1 == n { 0 } else { v + 1 }
-}
+    // The site after `v`, which is on the ring.
+    fn after(&self, v: usize) -> usize
+        requires { v < self.now.sites }
+        ensures { result ≡ after self.now.sites v }
+    {
+        (v + 1) % self.sites
+    }
 
-// The two sites that `v` is linked to, the lesser first.
-fn sides(n: usize, v: usize) -> (usize, usize)
-    requires { (3 ≤ n) × (v < n) }
-    ensures { Sides n v result.0 result.1 }
-{
-    if v == 0 {
-        return (1, n - 1);
+    // The two sites that `v`, which is on the ring, is linked to, the lesser first.
+    fn sides(&self, v: usize) -> (usize, usize)
+        requires { v < self.now.sites }
+        ensures { Sides self.now.sites v result.0 result.1 }
+    {
+        let last = self.sites - 1;
+        if v == 0 {
+            (1, last)
+        } else if v == last {
+            (0, last - 1)
+        } else {
+            (v - 1, v + 1)
+        }
     }
-    if v == n - 1 {
-        return (0, n - 2);
-    }
-    (v - 1, v + 1)
 }
 
 impl Board for Ring {
@@ -72,30 +69,23 @@ impl Board for Ring {
     }
 
     fn links(&self, u: usize, v: usize) -> u32 {
-        let n = self.sites;
-        if u >= n || v >= n {
+        if u >= self.sites || v >= self.sites {
             return 0;
         }
-        let a = site_after(n, u);
-        let b = site_after(n, v);
-        if a == v || b == u { 1 } else { 0 }
+        let a = self.after(u);
+        let b = self.after(v);
+        u32::from(a == v || b == u)
     }
 
     fn drain(&self, v: usize) -> u32 {
-        if v == 0 { 1 } else { 0 }
+        u32::from(v == 0)
     }
 
     fn next(&self, v: usize, j: usize) -> Option<usize> {
         if v >= self.sites {
             return None;
         }
-        let (low, high) = sides(self.sites, v);
-        if low >= j {
-            return Some(low);
-        }
-        if high >= j {
-            return Some(high);
-        }
-        None
+        let (low, high) = self.sides(v);
+        [low, high].into_iter().find(|u| *u >= j)
     }
 }

@@ -7,36 +7,24 @@ ghost use Rattle.board.specs.Adding.{Added, Made, list_checks, add_checks};
 
 use super::LinkList;
 use crate::link::{End, Link, misfit, weight_of};
+use arrayvec::ArrayVec;
 use refusal::{Part, Refusal, Row};
 
 // All links of a board, over ordered pairs and to the drain.
 const LIMIT: u32 = 500_000;
-
-// The records of a list.
-const ROOM: usize = 4096;
 
 impl LinkList {
     // A list of these sites, with no links.
     pub fn new(sites: usize) -> Result<LinkList, Refusal>
         ensures { Made sites result }
     {
-        if sites < 1 || sites > 4096 {
-            return Err(Refusal {
-                row: Row::Limit,
-                place: 0,
-                part: Part::Board,
-            });
+        if !(1..=4096).contains(&sites) {
+            return Err(Part::Board.refuse(Row::Limit));
         }
-        let none = Link {
-            site: 0,
-            other: End::Drain,
-            count: 0,
-        };
         Ok(LinkList {
             sites,
-            held: 0,
             total: 0,
-            records: [none; 4096],
+            records: ArrayVec::new(),
         })
     }
 
@@ -44,43 +32,26 @@ impl LinkList {
     pub fn add(&mut self, a: usize, b: End, k: u64) -> Result<(), Refusal>
         ensures { Added self.old self.new a b k result }
     {
-        if k < 1 || k > 500_000 {
-            return Err(Refusal {
-                row: Row::Limit,
-                place: 0,
-                part: Part::Board,
-            });
+        if !(1..=500_000).contains(&k) {
+            return Err(Part::Board.refuse(Row::Limit));
         }
         let count = k as u32;
-        let weight = weight_of(b, count);
-        if self.total + weight > LIMIT {
-            return Err(Refusal {
-                row: Row::Limit,
-                place: 0,
-                part: Part::Board,
-            });
+        let total = self.total + weight_of(b, count);
+        if total > LIMIT {
+            return Err(Part::Board.refuse(Row::Limit));
         }
         if let Some(site) = misfit(self.sites, a, b) {
-            return Err(Refusal {
-                row: Row::Site,
-                place: site as u64,
-                part: Part::Board,
-            });
+            return Err(Part::Board.refuse_at(Row::Site, site));
         }
-        if self.held >= ROOM {
-            return Err(Refusal {
-                row: Row::ListFull,
-                place: 0,
-                part: Part::Board,
-            });
+        if self.records.is_full() {
+            return Err(Part::Board.refuse(Row::ListFull));
         }
-        self.records[self.held] = Link {
+        self.records.push(Link {
             site: a,
             other: b,
             count,
-        };
-        self.held += 1;
-        self.total += weight;
+        });
+        self.total = total;
         Ok(())
     }
 

@@ -1,26 +1,30 @@
 -- What is left to show of `links`.
-use Rattle.std.proofs.Common.{sym, ◌∙◌, inl, inr, arith}
-use Rattle.ring.specs.Round.{m_off, m_off_left, m_zero, m_one}
+use Rattle.std.proofs.Common.{◌≡◌, Bool, false, ◌||◌, ◌==◌, sym, ◌∙◌, ap, inl, arith}
+use Rattle.std.proofs.lemmas.Bool.{eq-eqb, ne_eqb}
+use Rattle.board.specs.Grids.{one}
+use Rattle.board.proofs.Ones.{from_bool_is}
+use Rattle.ring.specs.Rings.{after}
+use Rattle.ring.specs.Round.{m_in, m_off, m_off_left, m_one}
 use Rattle.ring.proofs.RingBoard.links.Goals as goal
+use Rattle.ring.proofs.RingBoard.links.Goals.{then-u-self-via-then-u-self, then-u-self-via-else-u-self+then-v-self, then-a-v, else-a-v}
 
-pub returns-then-u-n : goal.returns-then-u-n
-returns-then-u-n c =
+pub returns-then-u-self : goal.returns-then-u-self
+returns-then-u-self c =
     let n = c.args.self.now.sites in
-    elim c.then-u-n.either [
-      | inl h ↦ sym (m_off_left n c.args.u c.args.v (omega arith))
-      | inr h ↦ sym (m_off n c.args.u c.args.v (omega arith))
+    elim c.then-u-self.branch [
+      | then-u-self-via-then-u-self w ↦ sym (m_off_left n c.args.u c.args.v (omega arith))
+      | then-u-self-via-else-u-self+then-v-self w ↦ sym (m_off n c.args.u c.args.v (omega arith))
     ]
 
-pub returns-then-b-u : goal.returns-then-b-u
-returns-then-b-u c =
+pub returns : goal.returns
+returns c =
     let n = c.args.self.now.sites in
-    elim c.if-b-u.either [
-      | inl h ↦ sym (m_one n c.args.u c.args.v (omega arith) (omega arith) (inl (sym c.site_after-a.ensures ∙ h)))
-      | inr h ↦ sym (m_one n c.args.u c.args.v (omega arith) (omega arith) (inr (sym c.site_after-b.ensures ∙ h.1)))
+    let u = c.args.u in
+    let v = c.args.v in
+    c.from.ensures ∙ from_bool_is _ ∙
+    elim c.if-a-v.branch [
+      | then-a-v w ↦ ap one (w.from-is ∙ eq-eqb _ _ w.if-a-v.true) ∙ sym (m_one n u v (omega arith) (omega arith) (inl (sym c.after-a.ensures ∙ w.if-a-v.true)))
+      | else-a-v w ↦
+          let apart : (after n u == v) ≡ false = ne_eqb (after n u) v (λ e. w.if-a-v.false (c.after-a.ensures ∙ e)) in
+          ap one (w.from-is ∙ ap (λ b. b == u) c.after-b.ensures) ∙ sym (m_in n u v (omega arith) (omega arith) ∙ ap (λ t. one (t || after n v == u)) apart)
     ]
-
-pub returns-else-b-u : goal.returns-else-b-u
-returns-else-b-u c =
-    let n = c.args.self.now.sites in
-    sym (m_zero n c.args.u c.args.v
-    (λ e. c.if-b-u.false.0 (c.site_after-a.ensures ∙ e)) (λ e. c.if-b-u.false.1 (c.site_after-b.ensures ∙ e)))

@@ -1,27 +1,23 @@
 -- What is left to show of `next`.
-use Rattle.std.proofs.Common.{◌≡◌, get_or, refl, ap, ◌∙◌, arith}
-use Rattle.board.specs.Shape.{NextIs}
-use Rattle.board.specs.Lists.{listed, nearer}
-use Rattle.board.specs.Links.{no_link}
-use Rattle.board.specs.Tables.{fits_true}
-use Rattle.board.specs.Listed.{next_none, next_more}
+use Rattle.std.proofs.Common.{◌≡◌, ℕ, length, nat_le, sym, ◌∙◌, rules, tests}
+use Rattle.std.proofs.lemmas.Iterator.{YieldsList-from_slice}
+use Rattle.std.proofs.lemmas.Iterator.Adapters.{option_map_id}
+use Rattle.std.proofs.lemmas.Iterator.Consumers.{YieldsList-at, YieldsList-from_filter, YieldsList-from_filter_map, min_from_yields_List}
+use Rattle.board.specs.Links.{far, m_of}
+use Rattle.board.specs.Tables.{m_of_whole}
+use Rattle.board.proofs.Nearest.{nearest, nearest_least, same_from}
 use Rattle.board.proofs.list.ask.LinkListBoard.next.Goals as goal
-
-pub loop-i-init : goal.loop-i-init
-loop-i-init c = next_none c.args.self.now.sites c.args.self.now.records c.args.v c.args.j
-
-pub loop-i-preserved : goal.loop-i-preserved
-loop-i-preserved c =
-    let b = c.args.self.now in
-    let i = c.loop-i.i in
-    let l = get_or b.records i no_link in
-    let fit = b.fit i c.loop-i-test.true in
-    let is : c.nearest-best.result ≡ nearer c.args.j c.loop-i.best _ = c.nearest-best.ensures ∙ ap (nearer c.args.j c.loop-i.best) c.far_end.ensures in
-    rw is (next_more b.sites i b.records c.args.v c.args.j l refl (fits_true b.sites l.site l.other fit.0) fit.1 c.loop-i.best c.loop-i.invariant)
 
 pub returns : goal.returns
 returns c =
     let b = c.args.self.now in
-    let end : c.loop-i.i ≡ b.held = omega arith in
-    let inv : NextIs (listed b.sites c.loop-i.i b.records) c.args.v c.args.j c.loop-i.best = c.loop-i.invariant in
-    rw end at inv
+    let xs = b.records.items in
+    let v = c.args.v in
+    let j = c.args.j in
+    let is : c.min.result ≡ nearest v j xs
+    = sym (option_map_id _) ∙ min_from_yields_List {v = λ (x : ℕ). x} c.filter.result c.min.result c.min.ensures.ran
+    (YieldsList-from_filter _ (λ u. nat_le j u)
+    (YieldsList-at c.filter.ensures.source (YieldsList-from_filter_map _ (λ l. far l.site l.other v)
+    (YieldsList-at c.filter_map.ensures.source (YieldsList-from_slice xs (cc))) c.filter_map.ensures.closure (λ x r q k. search (rules, tests))))
+    c.filter.ensures.closure (λ x r q k. search (rules, tests))) in
+    rw is (same_from (λ k. m_of xs (length xs) v k) _ j (λ k h. m_of_whole xs v k) _ (nearest_least v j b.sites xs b.fit))
