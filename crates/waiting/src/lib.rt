@@ -5,6 +5,7 @@ ghost use Rattle.std.specs.Prelude.{◌≤◌, length};
 
 mod turns;
 
+// A slice with a head and a length, since the caller lends the memory and nothing here allocates.
 #[derive(Drop)]
 pub struct WaitingList<'a, T> {
     slots: &'a mut [T],

@@ -5,6 +5,7 @@ ghost use Rattle.waiting.specs.WaitingLists.{waits, room, Pushed, Popped};
 
 use super::WaitingList;
 
+// What each method keeps stands in two clauses, and not in one word for both: callers cite `room` alone, and `same` is for borrows.
 impl<'a, T: Copy> WaitingList<'a, T> {
     // A list over these slots; none waits.
     pub fn new(slots: &'a mut [T]) -> WaitingList<'a, T>
