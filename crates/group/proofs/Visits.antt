@@ -53,18 +53,6 @@ module _ (b : Shape) (h : ℕ → ℕ) where
     here = inl (mark_here fs v 1 v (omega arith) refl);
   }
 
-  -- the number of an unburnt site changes
-  pub burning_number : (r v x : ℕ) (es : List Burnt) (fs xs : List ℕ) → mark fs v ≡ 0 → Burning b h r es fs xs → Burning b h r es fs (set xs v x)
-  burning_number r v x es fs xs nil B = record {
-    rounds = B.rounds;
-    right = B.right;
-    kept = λ u l m. mark_there xs v x u (λ same. omega (arith, ap (mark fs) same)) ∙ B.kept u l m;
-    queued = B.queued;
-    noted = B.noted;
-    turns = B.turns;
-    few = B.few;
-  }
-
   -- what holding u leaves of the others
   held_undone : (r u : ℕ) (fs xs : List ℕ) (es' : List Burnt) (fs' xs' : List ℕ) → mark fs u ≡ 0 → Held b h r u fs xs es' fs' xs' → (w : ℕ) → links_into b (undone fs) w ≡ links_into b (undone fs') w
   held_undone r u fs xs es' fs' xs' nil H w = into_same b (undone fs) (undone fs') (λ k l. elim (cases_eq k u) [
@@ -133,9 +121,6 @@ module _ (b : Shape) (h : ℕ → ℕ) where
             (H.marks u apart ∙ was.0, H.numbers u apart ∙ was.1 ∙ held_undone 0 i fs xs es' fs' xs' here.0 H u);
       }
 
-  pub lighting_all : (i : ℕ) (es : List Burnt) (fs xs : List ℕ) → b.sites ≤ i → Lighting b h i es fs xs → Steady b h 0 es fs xs
-  lighting_all i es fs xs all L = record { burning = L.burning; cool = λ u l. L.near u l (omega arith) }
-
   -- one neighbour of v
   module _ (ok : Sound b) (r v j u : ℕ) (es : List Burnt) (fs xs : List ℕ) (V : Visit b h r v j es fs xs) (least : Least (b.m v) j u) where
     between : (k : ℕ) → k < b.sites → j ≤ k → k < u → Cool b h fs xs k 0
@@ -153,7 +138,7 @@ module _ (b : Shape) (h : ℕ → ℕ) where
     }
 
     -- the number of u before it is held
-    pub visit_count : mark fs u ≡ 0 → (b.m v u ≤ at xs u) × (at xs u - b.m v u ≡ links_into b (undone fs) u)
+    visit_count : mark fs u ≡ 0 → (b.m v u ≤ at xs u) × (at xs u - b.m v u ≡ links_into b (undone fs) u)
     visit_count nil =
         let c = (V.far u (linked_on ok v u least.linked) least.from).count nil in
         (omega (arith, ok.symmetric v u), omega (arith, ok.symmetric v u))

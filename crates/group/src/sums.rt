@@ -1,6 +1,6 @@
 // Sums of still heights, and the identity, each by settling in the memory of the answer.
 ghost use Rattle.std.specs.Prelude.{◌≡◌, ℕ, ◌+◌, ◌*◌, ◌<◌, ◌≤◌, List, length};
-ghost use Rattle.refusal.specs.Table.{InOrder, rows as rows_of_lem};
+ghost use Rattle.refusal.specs.Table.{InOrder, rows};
 ghost use Rattle.board.specs.Shape.{Shape};
 ghost use Rattle.firing.specs.Firing.{at, fires_from};
 ghost use Rattle.firing.specs.Reaching.{AllReach};
@@ -153,7 +153,7 @@ pub fn identity<B: Board>(
 
 // The rows by which a sum refuses, in their order.
 pub fn sum_checks() -> [Row; 5]
-    ensures { (b : Shape) (hs hs' : List ℕ) (answer waiting bytes budget : ℕ) → (result ≡ rows_of_lem (sum_checks b hs hs' answer waiting bytes budget)) × InOrder (sum_checks b hs hs' answer waiting bytes budget) }
+    ensures { (b : Shape) (hs hs' : List ℕ) (answer waiting bytes budget : ℕ) → (result ≡ rows (sum_checks b hs hs' answer waiting bytes budget)) × InOrder (sum_checks b hs hs' answer waiting bytes budget) }
 {
     [
         Row::Memory,
@@ -166,7 +166,7 @@ pub fn sum_checks() -> [Row; 5]
 
 // The rows by which the identity refuses, in their order.
 pub fn identity_checks() -> [Row; 4]
-    ensures { (b : Shape) (answer waiting bytes budget : ℕ) → (result ≡ rows_of_lem (identity_checks b answer waiting bytes budget)) × InOrder (identity_checks b answer waiting bytes budget) }
+    ensures { (b : Shape) (answer waiting bytes budget : ℕ) → (result ≡ rows (identity_checks b answer waiting bytes budget)) × InOrder (identity_checks b answer waiting bytes budget) }
 {
     [Row::Memory, Row::Limit, Row::NoDrain, Row::Budget]
 }

@@ -5,7 +5,7 @@ ghost use Rattle.settling.specs.Searches.{mark};
 ghost use Rattle.settling.specs.Reaching.{Says};
 ghost use Rattle.firing.specs.TakingBack.{links_into};
 ghost use Rattle.firing.specs.Burning.{Rounds, AllBurn};
-ghost use Rattle.refusal.specs.Table.{InOrder, rows as rows_of_lem};
+ghost use Rattle.refusal.specs.Table.{InOrder, rows};
 ghost use Rattle.board.specs.Shape.{Shape};
 ghost use Rattle.firing.specs.Firing.{at};
 ghost use Rattle.group.specs.Flames.{undone, Burning, Cool, Steady, Visit, Lighting, Up, Held, Fresh, Cleared, Ended};
@@ -109,7 +109,7 @@ impl<'a> Fire<'a> {
     {
         let v = burnt.site;
         let mut j = 0;
-        // By `next` and not by an iterator: burning is written as the walk that it is.
+        // The form that is laid down for this walk: `next` is taken apart, and none ends it.
         loop {
             let Some(u) = board.next(v, j) else { break };
             if self.marks[u] == UNBURNT {
@@ -204,7 +204,7 @@ pub fn burn<B: Board>(
 
 // The rows by which burning refuses, in their order.
 pub fn burn_checks() -> [Row; 3]
-    ensures { (b : Shape) (hs : List ℕ) (rounds waiting bytes : ℕ) → (result ≡ rows_of_lem (burn_checks b hs rounds waiting bytes)) × InOrder (burn_checks b hs rounds waiting bytes) }
+    ensures { (b : Shape) (hs : List ℕ) (rounds waiting bytes : ℕ) → (result ≡ rows (burn_checks b hs rounds waiting bytes)) × InOrder (burn_checks b hs rounds waiting bytes) }
 {
     [Row::Memory, Row::NoDrain, Row::NotStill]
 }
