@@ -2,6 +2,7 @@
 use Rattle.std.proofs.Common.{◌≡◌, ℕ, ◌+◌, ◌*◌, ◌<◌, ◌≤◌, ltb, ◌≢◌, Bool, true, false, List, length, set, Ok, Err, Result, sym, refl, ap, ◌∙◌, subst, inl, inr, mul-zero, arith, length-set, get_or-set_other, get_or-set_same, le-ltb, lt-ltb, below_more}
 use native.Mathlib.Decide.{ℕ_discrete}
 use Rattle.std.specs.Bool.{MatchBool}
+use Rattle.std.specs.Result.{IsOk}
 use mir.Val.{bool_byte}
 use Rattle.std.proofs.lemmas.Bool.{cases_lt, cond-true, cond-false}
 use Rattle.refusal.specs.declared.Part.{Part}
@@ -16,18 +17,26 @@ use Rattle.firing.proofs.Action.{run_follows, follows_conserves}
 use Rattle.firing.proofs.Runs.{run_same, drained_more}
 use Rattle.settling.specs.Firings as settling
 use Rattle.settling.specs.Firings.{LightNear}
+use Rattle.settling.proofs.Spread.{low_all}
 use Rattle.firing.proofs.Exist.{can_fire_dec}
 use Rattle.bench.specs.Checks.{ReadyAt, Ready}
-use Rattle.bench.specs.Waves.{WaveDone, upto, Waving}
+use Rattle.bench.specs.Waves.{Movable, WaveDone, upto, Waving}
 
 -- a firing that no check refuses is made
 pub fired_fires : (s : Shape) (xs ys : List ℕ) (v : ℕ) (part : Part) (r : Result (Unit {0}) Refusal) → Passed (settling.near_checks s xs v) → settling.FiredNear s xs ys v part r → Fires s v (at xs) (at ys)
 fired_fires s xs ys v part (Ok u) p f = f.1
 fired_fires s xs ys v part (Err e) p f = absurd (not_both (settling.near_checks s xs v) e.row e.place f.0.by p)
 
-pub fire_passes : (s : Shape) (xs : List ℕ) (v : ℕ) → length xs ≡ s.sites → v < s.sites → CanFire s (at xs) v → ((u : ℕ) → at xs u ≤ 1000000) → Passed (settling.near_checks s xs v)
+pub fired_ok : (s : Shape) (xs ys : List ℕ) (v : ℕ) (part : Part) (r : Result (Unit {0}) Refusal) → Passed (settling.near_checks s xs v) → settling.FiredNear s xs ys v part r → IsOk r
+fired_ok s xs ys v part (Ok u) p f = refl
+fired_ok s xs ys v part (Err e) p f = absurd (not_both (settling.near_checks s xs v) e.row e.place f.0.by p)
+
+fire_passes : (s : Shape) (xs : List ℕ) (v : ℕ) → length xs ≡ s.sites → v < s.sites → CanFire s (at xs) v → ((u : ℕ) → at xs u ≤ 1000000) → Passed (settling.near_checks s xs v)
 fire_passes s xs v sized on can low =
     (λ p w. w.1 sized, (λ p w. omega (arith, w.1.2, low w.1.0), (λ p w. omega (arith, w.1), (λ p w. w.1 can, tt))))
+
+pub movable_passes : (s : Shape) (xs cs : List ℕ) (v : ℕ) → Movable s xs cs → v < s.sites → CanFire s (at xs) v → Passed (settling.near_checks s xs v)
+movable_passes s xs cs v fit on can = fire_passes s xs v fit.sized on can (low_all xs 1000000 (omega (arith, fit.light, ap (λ n. sum_below n (at xs)) fit.sized)))
 
 upto_below : (w : ℕ → ℕ) (v u : ℕ) → u < v → upto w v u ≡ w u
 upto_below w v u l = cond-true (ltb u v) (w u) 0 (lt-ltb u v l)

@@ -21,7 +21,8 @@ pub(crate) fn total(xs: &[u64]) -> u64
     xs.iter().sum()
 }
 
-// Fires a site that can fire, and counts it; the grains that it sends to the drain.
+// Fires a site that can fire, and counts it; the grains that it sends to the drain. Heights and counts stay two slices: a
+// slice keeps its length by itself, and a struct of two vectors would have to promise it at each call.
 pub(crate) fn fire_counted<B: Board>(
     board: &B,
     heights: &mut [u64],
@@ -36,7 +37,7 @@ pub(crate) fn fire_counted<B: Board>(
     ensures counts { counts.new ≡ slice_set counts.old v (at counts.old v + 1) }
     ensures drains { result ≡ (B.Board.shape board.now).s v }
 {
-    let _ = fire_near(board, heights, v, Part::Bench);
+    fire_near(board, heights, v, Part::Bench).unwrap();
     counts[v] += 1;
     board.drain(v) as u64
 }

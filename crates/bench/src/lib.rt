@@ -59,7 +59,7 @@ pub struct Ticket {
     number: u64,
 }
 
-// Record memory: lent entries, the first `held` of which are records.
+// Record memory: lent entries, the first `held` of which are records. The caller lends it, so it is a slice with a count.
 #[derive(Drop)]
 pub struct Records<'a> {
     slots: &'a mut [Record],
