@@ -15,28 +15,6 @@ use std::alloc::{AllocError, AllocFailed, Global};
 
 const SIZE: usize = 65536;
 
-// What the next line says, behind the last letter; none at the end.
-fn next_said(reader: &mut Reader, last: Option<Kind>) -> Result<Option<Line>, LineRefusal>
-    requires { reader.old.line ≤ reader.old.at + 1 }
-    ensures said { NextSaid reader.old reader.new last result }
-    ensures same { reader.new.bytes.now ≡ reader.old.bytes.now }
-    ensures low { reader.new.line ≤ reader.new.at + 1 }
-{
-    let number = reader.line;
-    let Some(line) = reader.next_line() else {
-        if reached(last) < Stage::Ceiling {
-            return Err(LineRefusal::at(number, Row::Letter, 1));
-        }
-        return Ok(None);
-    };
-    read_line(last, line)
-        .map(Some)
-        .map_err(|refusal| LineRefusal {
-            line: number,
-            refusal,
-        })
-}
-
 impl<'a> Lines<'a> {
     // The lines of a sheet, or the refusal of its size.
     fn of(sheet: &'a [u8]) -> Result<Lines<'a>, LineRefusal>
@@ -51,6 +29,26 @@ impl<'a> Lines<'a> {
             refused: false,
         })
     }
+
+    // What the next line says, behind the last letter; none at the end.
+    fn next_said(&mut self) -> Result<Option<Line>, LineRefusal>
+        ensures said { NextSaid self.old.reader self.new.reader self.old.last result }
+        ensures same { (self.new.reader.bytes.now ≡ self.old.reader.bytes.now) × (self.new.last ≡ self.old.last) × (self.new.refused ≡ self.old.refused) }
+    {
+        let number = self.reader.line;
+        let Some(line) = self.reader.next_line() else {
+            if reached(self.last) < Stage::Ceiling {
+                return Err(LineRefusal::at(number, Row::Letter, 1));
+            }
+            return Ok(None);
+        };
+        read_line(self.last, line)
+            .map(Some)
+            .map_err(|refusal| LineRefusal {
+                line: number,
+                refusal,
+            })
+    }
 }
 
 impl Iterator for Lines<'_> {
@@ -64,7 +62,7 @@ impl Iterator for Lines<'_> {
         if self.refused {
             return None;
         }
-        match next_said(&mut self.reader, self.last) {
+        match self.next_said() {
             Ok(None) => None,
             Ok(Some(line)) => {
                 self.last = Some(Kind::from(line));
