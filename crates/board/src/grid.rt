@@ -1,7 +1,7 @@
 // The grid: a board of rows and columns.
 ghost use Rattle.std.specs.Prelude.{◌≡◌, ℕ, ◌*◌, ◌<◌, ◌≤◌, Ok, Err};
 ghost use Rattle.refusal.specs.declared.Part.TheVariants as parts;
-ghost use Rattle.refusal.specs.Table.{Passed, Refused, InOrder, rows as rows_of_lem};
+ghost use Rattle.refusal.specs.Table.{Passed, Refused, InOrder, rows as rows_of};
 ghost use Rattle.board.specs.Shape.{NextIs};
 ghost use Rattle.board.specs.Grids.{grid_of, grid_checks, row_of, column_of, neighbours as near, Placed};
 ghost use Rattle.board.specs.GridsLemmas.{grid_sound};
@@ -30,7 +30,7 @@ impl Grid {
 
     // The rows by which `new` refuses, in the order of its checks.
     pub fn checks() -> [Row; 1]
-        ensures { (rows columns : ℕ) → (result ≡ rows_of_lem (grid_checks rows columns)) × InOrder (grid_checks rows columns) }
+        ensures { (rows columns : ℕ) → (result ≡ rows_of (grid_checks rows columns)) × InOrder (grid_checks rows columns) }
     {
         [Row::Limit]
     }

@@ -32,10 +32,17 @@ impl<'a, B: Board> Neighbours<'a, B> {
     pub fn of(board: &'a B, v: usize) -> Neighbours<'a, B>
         ensures { (result.board.now ≡ board.now) × (result.site ≡ v) × (result.from ≡ 0) }
     {
+        Neighbours::of_from(board, v, 0)
+    }
+
+    // The sites from `j` on that `v` is linked to, the lowest first.
+    pub fn of_from(board: &'a B, v: usize, j: usize) -> Neighbours<'a, B>
+        ensures { (result.board.now ≡ board.now) × (result.site ≡ v) × (result.from ≡ j) }
+    {
         Neighbours {
             board,
             site: v,
-            from: 0,
+            from: j,
         }
     }
 }

@@ -1,6 +1,6 @@
 // Earth: a layer that makes a site part of the drain.
 ghost use Rattle.std.specs.Prelude.{◌≡◌, ℕ, None as Nothing, Option as Maybe};
-ghost use Rattle.refusal.specs.Table.{InOrder, rows as rows_of_lem};
+ghost use Rattle.refusal.specs.Table.{InOrder, rows as rows_of};
 ghost use Rattle.board.specs.Shape.{Shape};
 ghost use Rattle.layer.specs.Earths.{earth_active, earth_of, earth_checks, EarthOn, Earthing};
 ghost use Rattle.layer.specs.Earthed.{earth_sound};
@@ -53,7 +53,7 @@ impl<B: Board> Earth<B> {
 
     // The rows by which `earth` refuses, in the order of its checks.
     pub fn checks() -> [Row; 2]
-        ensures { (b : Shape) (o : Maybe ℕ) (w : ℕ) → (result ≡ rows_of_lem (earth_checks b o w)) × InOrder (earth_checks b o w) }
+        ensures { (b : Shape) (o : Maybe ℕ) (w : ℕ) → (result ≡ rows_of (earth_checks b o w)) × InOrder (earth_checks b o w) }
     {
         [Row::Site, Row::LayerSet]
     }

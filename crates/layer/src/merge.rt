@@ -1,6 +1,6 @@
 // Merge: a layer that makes one site of two.
 ghost use Rattle.std.specs.Prelude.{◌≡◌, ℕ, ◌<◌, ◌≤◌, None as Nothing, Option as Maybe, ◌≢◌};
-ghost use Rattle.refusal.specs.Table.{InOrder, rows as rows_of_lem};
+ghost use Rattle.refusal.specs.Table.{InOrder, rows as rows_of};
 ghost use Rattle.board.specs.Shape.{Shape, LeastFrom};
 ghost use Rattle.layer.specs.Layers.{but};
 ghost use Rattle.layer.specs.Merges.{joined_m, joined_s, merge_active, merge_of, merge_checks, MergeOn, Merging, lesser};
@@ -61,7 +61,7 @@ impl<B: Board> Merge<B> {
 
     // The rows by which `merge` refuses, in the order of its checks.
     pub fn checks() -> [Row; 2]
-        ensures { (x : Shape) (o : Maybe Pair) (a b : ℕ) → (result ≡ rows_of_lem (merge_checks x o a b)) × InOrder (merge_checks x o a b) }
+        ensures { (x : Shape) (o : Maybe Pair) (a b : ℕ) → (result ≡ rows_of (merge_checks x o a b)) × InOrder (merge_checks x o a b) }
     {
         [Row::Site, Row::LayerSet]
     }

@@ -3,7 +3,7 @@
 
 ghost use Rattle.std.specs.Prelude.{◌≡◌, ℕ, ◌<◌, ◌≤◌, Ok, Err};
 ghost use Rattle.refusal.specs.declared.Part.TheVariants as parts;
-ghost use Rattle.refusal.specs.Table.{Passed, Refused, InOrder, rows as rows_of_lem};
+ghost use Rattle.refusal.specs.Table.{Passed, Refused, InOrder, rows as rows_of};
 ghost use Rattle.ring.specs.Rings.{after, ring_of, ring_checks, Sides};
 ghost use Rattle.ring.specs.Round.{ring_sound};
 
@@ -30,7 +30,7 @@ impl Ring {
 
     // The rows by which `new` refuses, in the order of its checks.
     pub fn checks() -> [Row; 1]
-        ensures { (n : ℕ) → (result ≡ rows_of_lem (ring_checks n)) × InOrder (ring_checks n) }
+        ensures { (n : ℕ) → (result ≡ rows_of (ring_checks n)) × InOrder (ring_checks n) }
     {
         [Row::Limit]
     }

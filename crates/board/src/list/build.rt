@@ -1,6 +1,6 @@
 // Making a link list, and adding to it.
 ghost use Rattle.std.specs.Prelude.{◌≡◌, ℕ};
-ghost use Rattle.refusal.specs.Table.{InOrder, rows as rows_of_lem};
+ghost use Rattle.refusal.specs.Table.{InOrder, rows as rows_of};
 ghost use Rattle.board.specs.declared.link.End.{End as Ending};
 ghost use Rattle.board.specs.declared.list.LinkList.{LinkList as Listing};
 ghost use Rattle.board.specs.Adding.{Added, Made, list_checks, add_checks};
@@ -57,14 +57,14 @@ impl LinkList {
 
     // The rows by which `new` refuses, in the order of its checks.
     pub fn new_checks() -> [Row; 1]
-        ensures { (n : ℕ) → (result ≡ rows_of_lem (list_checks n)) × InOrder (list_checks n) }
+        ensures { (n : ℕ) → (result ≡ rows_of (list_checks n)) × InOrder (list_checks n) }
     {
         [Row::Limit]
     }
 
     // The rows by which `add` refuses, in the order of its checks.
     pub fn add_checks() -> [Row; 3]
-        ensures { (x : Listing) (a : ℕ) (b : Ending) (k : ℕ) → (result ≡ rows_of_lem (add_checks x a b k)) × InOrder (add_checks x a b k) }
+        ensures { (x : Listing) (a : ℕ) (b : Ending) (k : ℕ) → (result ≡ rows_of (add_checks x a b k)) × InOrder (add_checks x a b k) }
     {
         [Row::Limit, Row::Site, Row::ListFull]
     }

@@ -7,6 +7,7 @@ ghost use Rattle.layer.specs.Cutting.{cut_sound};
 use super::Cut;
 use board::Board;
 use board::link::{Link, drain_of, links_of, misfit};
+use board::neighbours::Neighbours;
 
 // Whether `l` is on a board of `sites` sites.
 fn is_on(sites: usize, l: Link) -> bool
@@ -67,14 +68,11 @@ impl<B: Board> Board for Cut<B> {
     }
 
     fn next(&self, v: usize, j: usize) -> Option<usize> {
-        let mut from = j;
-        // Neighbours goes from site 0 on, so that a walk by `next` would pass the sites below `j` again at each step.
-        loop {
-            let u = self.below.next(v, from)?;
+        for u in Neighbours::of_from(&self.below, v, j) {
             if self.links(v, u) > 0 {
                 return Some(u);
             }
-            from = u + 1;
         }
+        None
     }
 }

@@ -1,6 +1,6 @@
 // Making a cut layer, and cutting.
 ghost use Rattle.std.specs.Prelude.{◌≡◌, ℕ, List, [], position};
-ghost use Rattle.refusal.specs.Table.{InOrder, rows as rows_of_lem};
+ghost use Rattle.refusal.specs.Table.{InOrder, rows as rows_of};
 ghost use Rattle.board.specs.Shape.{Shape};
 ghost use Rattle.board.specs.Links.{alike};
 ghost use Rattle.board.specs.declared.link.End.{End as Ending};
@@ -73,7 +73,7 @@ impl<B: Board> Cut<B> {
 
     // The rows by which `cut` refuses, in the order of its checks.
     pub fn checks() -> [Row; 4]
-        ensures { (x : Shape) (xs : List Linking) (a : ℕ) (b : Ending) (k : ℕ) → (result ≡ rows_of_lem (cut_checks x xs a b k)) × InOrder (cut_checks x xs a b k) }
+        ensures { (x : Shape) (xs : List Linking) (a : ℕ) (b : Ending) (k : ℕ) → (result ≡ rows_of (cut_checks x xs a b k)) × InOrder (cut_checks x xs a b k) }
     {
         [Row::Limit, Row::Site, Row::CutFull, Row::FewLinks]
     }
