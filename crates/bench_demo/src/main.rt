@@ -1,14 +1,14 @@
 // Plays small lists of calls, and judges small certificates: a line for each answer.
 #![tactic(auto)]
 
-use anyhow::anyhow;
 use bench::{GrainDrop, Record, Records, SiteMemory};
 use board::grid::Grid;
 use board::list::LinkList;
 use board::{Board, End};
 use certificate::certify;
 use play::{Answer, Call, play};
-use refusal::Part;
+use refusal::{Part, Refusal};
+use std::fmt;
 
 // The most sites and calls that are played here.
 const MOST: usize = 4;
@@ -23,37 +23,64 @@ const EMPTY: Record = Record {
     drained: 0,
 };
 
-fn show_record(rt: &HostRuntime, r: Record) -> anyhow::Result<()> {
-    match r.dropped {
-        Some(d) => println!(rt;
-            "s {} {} {} {} {} {}",
-            r.number, d.site, d.grains, r.size, r.area, r.drained
-        )?,
-        None => println!(rt; "s {} * 0 {} {} {}", r.number, r.size, r.area, r.drained)?,
+// A record's line: number, site and grains of its drop (`* 0` for none), size, area, drained.
+#[derive(Clone, Copy)]
+struct RecordLine(Record);
+
+impl fmt::Display for RecordLine {
+    fn fmt<W: fmt::Write>(&self, f: &mut fmt::Formatter<W>) -> fmt::Result {
+        let r = self.0;
+        write!(f, "s {} ", r.number)?;
+        match r.dropped {
+            Some(d) => write!(f, "{} {}", d.site, d.grains)?,
+            None => f.write_str("* 0")?,
+        }
+        write!(f, " {} {} {}", r.size, r.area, r.drained)
     }
-    Ok(())
 }
 
-fn show(rt: &HostRuntime, call: Call, answer: Answer) -> anyhow::Result<()> {
-    match answer {
-        Answer::Opened(number) => println!(rt; "{} {number}", call.letter())?,
-        Answer::Fired(site) => println!(rt; "f {site}")?,
-        Answer::Ran(run) => println!(rt; "r {} {}", run.fired, run.word.name())?,
-        Answer::Waved(fired) => println!(rt; "w {fired}")?,
-        Answer::Closed(record) => show_record(rt, record)?,
-        Answer::Put(number) => println!(rt; "p {number}")?,
-        Answer::Refused(refusal) => println!(rt; "! {} {}", u8::from(refusal.row), refusal.place)?,
+// A refusal's line: its row and place.
+#[derive(Clone, Copy)]
+struct RefusalLine(Refusal);
+
+impl fmt::Display for RefusalLine {
+    fn fmt<W: fmt::Write>(&self, f: &mut fmt::Formatter<W>) -> fmt::Result {
+        write!(f, "! {} {}", u8::from(self.0.row), self.0.place)
     }
-    Ok(())
 }
 
-fn show_heights(rt: &HostRuntime, heights: &[u64]) -> anyhow::Result<()> {
-    print!(rt; "z")?;
-    for height in heights {
-        print!(rt; " {height}")?;
+// A call's line: its letter and what it answers, or the refusal.
+#[derive(Clone, Copy)]
+struct AnswerLine {
+    call: Call,
+    answer: Answer,
+}
+
+impl fmt::Display for AnswerLine {
+    fn fmt<W: fmt::Write>(&self, f: &mut fmt::Formatter<W>) -> fmt::Result {
+        let letter = self.call.letter();
+        match self.answer {
+            Answer::Opened(n) | Answer::Waved(n) | Answer::Put(n) => write!(f, "{letter} {n}"),
+            Answer::Fired(site) => write!(f, "{letter} {site}"),
+            Answer::Ran(run) => write!(f, "{letter} {} {}", run.fired, run.word),
+            Answer::Closed(record) => write!(f, "{}", RecordLine(record)),
+            Answer::Refused(refusal) => write!(f, "{}", RefusalLine(refusal)),
+        }
     }
-    println!(rt)?;
-    Ok(())
+}
+
+// The line of what lies on the sites.
+#[derive(Clone, Copy)]
+struct HeightsLine<'a>(&'a [u64]);
+
+impl fmt::Display for HeightsLine<'_> {
+    fn fmt<W: fmt::Write>(&self, f: &mut fmt::Formatter<W>) -> fmt::Result {
+        f.write_str("z")?;
+        for height in self.0 {
+            write!(f, " {height}")?;
+        }
+        Ok(())
+    }
 }
 
 // A play from these heights, and what lies on the sites at its end; or the refusal of its creation.
@@ -90,15 +117,17 @@ fn played<B: Board>(
     ) {
         Ok(bench) => {
             for (call, answer) in calls.iter().zip(&answers) {
-                show(rt, *call, *answer)?;
+                let line = AnswerLine {
+                    call: *call,
+                    answer: *answer,
+                };
+                println!(rt; "{line}")?;
             }
-            show_heights(rt, bench.heights())
+            println!(rt; "{}", HeightsLine(bench.heights()))?;
         },
-        Err((refusal, _memory)) => {
-            println!(rt; "! {} {}", u8::from(refusal.row), refusal.place)?;
-            Ok(())
-        },
+        Err((refusal, _memory)) => println!(rt; "{}", RefusalLine(refusal))?,
     }
+    Ok(())
 }
 
 // The verdict on a certificate of the board.
@@ -113,7 +142,7 @@ fn judged<B: Board>(
     let mut bytes = [0; MOST];
     match certify(board, start, counts, end, &mut waiting, &mut bytes) {
         Ok(()) => println!(rt; "certified")?,
-        Err(refusal) => println!(rt; "! {} {}", u8::from(refusal.row), refusal.place)?,
+        Err(refusal) => println!(rt; "{}", RefusalLine(refusal))?,
     }
     Ok(())
 }
@@ -124,9 +153,7 @@ const FIVE: Call = Call::Drop(GrainDrop { site: 0, grains: 5 });
 const FOUR: Call = Call::Drop(GrainDrop { site: 1, grains: 4 });
 
 fn on_pair(rt: &HostRuntime) -> anyhow::Result<()> {
-    let Ok(pair) = Grid::new(1, 2) else {
-        return Err(anyhow!("no pair"));
-    };
+    let pair = Grid::new(1, 2)?;
     let calls = [
         Call::Resume,
         Call::Run(1),
@@ -150,9 +177,7 @@ fn on_pair(rt: &HostRuntime) -> anyhow::Result<()> {
 }
 
 fn on_site(rt: &HostRuntime) -> anyhow::Result<()> {
-    let Ok(site) = Grid::new(1, 1) else {
-        return Err(anyhow!("no site"));
-    };
+    let site = Grid::new(1, 1)?;
     let calls = [
         Call::Resume,
         Call::Run(9),
@@ -176,12 +201,9 @@ fn on_site(rt: &HostRuntime) -> anyhow::Result<()> {
 }
 
 fn on_list(rt: &HostRuntime) -> anyhow::Result<()> {
-    let Ok(mut list) = LinkList::new(3) else {
-        return Err(anyhow!("no list"));
-    };
-    let (Ok(()), Ok(())) = (list.add(0, End::Drain, 1), list.add(2, End::Site(1), 1)) else {
-        return Err(anyhow!("no links"));
-    };
+    let mut list = LinkList::new(3)?;
+    list.add(0, End::Drain, 1)?;
+    list.add(2, End::Site(1), 1)?;
     played(rt, &list, &[0, 0, 0], 9, &[Call::Resume])
 }
 

@@ -91,11 +91,7 @@ pub(crate) fn lay_aside<B: Board>(board: &B, bench: &mut Bench, held: Option<Tic
     ensures aside { state bench.new ≡ laid_aside (state bench.old) held }
     ensures law { KeepsLaw (B.Board.shape board.now) (state bench.old) (state bench.new) }
 {
-    match held {
-        None => {}
-        Some(ticket) => match bench.shelve(board, ticket) {
-            Ok(_) => {}
-            Err((_, _)) => unreachable(),
-        },
+    if let Some(ticket) = held {
+        bench.shelve(board, ticket).unwrap();
     }
 }
