@@ -43,6 +43,7 @@ impl LinkList {
         if let Some(site) = misfit(self.sites, a, b) {
             return Err(Part::Board.refuse_at(Row::Site, site));
         }
+        // Asked before: after a `try_push` that fails, `search` finds "no proof" that the list is as it was.
         if self.records.is_full() {
             return Err(Part::Board.refuse(Row::ListFull));
         }

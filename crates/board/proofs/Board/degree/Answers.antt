@@ -12,17 +12,6 @@ pub overflow_add-sum : goal.overflow_add-sum
 overflow_add-sum g c =
     omega (arith, walk_le (g.met.Self.Board.sound c.args.self.now) c.args.v c.loop-u.j c.in-Some.u c.in-Some.ensures)
 
-pub overflow_add-j : goal.overflow_add-j
-overflow_add-j g c =
-    let ok = g.met.Self.Board.sound c.args.self.now in
-    omega (arith, linked_on ok c.args.v c.in-Some.u c.in-Some.ensures.linked, ok.few)
-
-pub loop-u-smaller : goal.loop-u-smaller
-loop-u-smaller g c =
-    let ok = g.met.Self.Board.sound c.args.self.now in
-    let h = c.in-Some.ensures in
-    omega (arith, linked_on ok c.args.v c.in-Some.u h.linked, h.from)
-
 pub loop-u-preserved : goal.loop-u-preserved
 loop-u-preserved g c =
     let ok = g.met.Self.Board.sound c.args.self.now in
