@@ -1,5 +1,5 @@
 -- What is left to show of `cut`.
-use Rattle.std.proofs.Common.{◌≡◌, ℕ, ◌≤◌, true, false, not, List, length, Some, None, Option, Ok, refl, sym, ap, ◌∙◌, subst, inl, inr, arith, length-set, All, position, nat_lt, slice_index_or, slice_set}
+use Rattle.std.proofs.Common.{◌≡◌, ℕ, ◌<◌, ◌≤◌, true, false, not, List, length, get_or, Some, None, Option, Ok, refl, sym, ap, ◌∙◌, subst, inl, inr, arith, length-set, All, position, nat_lt, slice_index_or, slice_set}
 use Rattle.std.specs.Option.{is_some}
 use Rattle.std.specs.List.{refill, position_or_len}
 use Rattle.std.proofs.lemmas.Bool.{cases_lt, cond-true, lt-ltb, eqb-true, eqb-false, false≢true}
@@ -35,9 +35,13 @@ found_none xs a b e k d on same =
     ] in
     false≢true (sym (fails_before_first p xs k d (omega arith)) ∙ same)
 
+found_at : (xs : List Link) (a : ℕ) (b : End) (r : Option ℕ) (i : ℕ) → r ≡ position (λ l. alike l.site l.other a b) xs → r ≡ Some i
+    → (i < length xs) × (alike (get_or xs i no_link).site (get_or xs i no_link).other a b ≡ true)
+found_at xs a b r i e is = let h = position-Some (λ (l : Link). alike l.site l.other a b) xs i no_link (sym e ∙ is) in (h.0, h.1)
+
 found_some : (xs : List Link) (a : ℕ) (b : End) (r : Option ℕ) → r ≡ position (λ l. alike l.site l.other a b) xs → is_some r ≡ true → New xs a b → ⊥
 found_some xs a b (Some i) e t new =
-    let h = position-Some (λ (l : Link). alike l.site l.other a b) xs i no_link (sym e) in
+    let h = found_at xs a b (Some i) i e refl in
     new i no_link h.0 h.1
 found_some xs a b None e t new = absurd (cc)
 
@@ -72,7 +76,7 @@ pub overflow_add-deref_mut : goal.overflow_add-deref_mut
 overflow_add-deref_mut g c =
     let e = c.args.self.now in
     let i = c.in-Some-found.i in
-    let h = position-Some (λ (l : Link). alike l.site l.other c.args.a c.args.b) e.entries.items i no_link (sym c.find-found.ensures ∙ c.in-Some-found.is) in
+    let h = found_at e.entries.items c.args.a c.args.b _ i c.find-found.ensures c.in-Some-found.is in
     rw c.deref_mut.ensures.value (omega (arith, raise_fits (g.B.Board.shape e.below) (g.met.B.Board.sound e.below) i e.entries.items h.0 c.args.a c.args.b c.args.k (omega arith) h.1 (omega arith)))
 
 pub invariant_of-self : goal.invariant_of-self
@@ -80,7 +84,7 @@ invariant_of-self g c =
     let e = c.args.self.now in
     let xs = e.entries.items in
     let i = c.in-Some-found.i in
-    let h = position-Some (λ (l : Link). alike l.site l.other c.args.a c.args.b) xs i no_link (sym c.find-found.ensures ∙ c.in-Some-found.is) in
+    let h = found_at xs c.args.a c.args.b _ i c.find-found.ensures c.in-Some-found.is in
     let small = raise_fits (g.B.Board.shape e.below) (g.met.B.Board.sound e.below) i xs h.0 c.args.a c.args.b c.args.k (omega arith) h.1 (omega arith) in
     let P : List Link → Type 0 = λ ys. All (λ l. l.count ≤ 500000) ys in
     record { low = subst P (sym (written xs c.deref_mut.result.now i c.args.k c.deref_mut.ensures.value)) (All-set (λ l. l.count ≤ 500000) xs i (raised (slice_index_or xs i no_link) c.args.k) small e.low) }
@@ -91,7 +95,7 @@ returns-in-Some-found-clause-made g c =
     let x = g.B.Board.shape e.below in
     let xs = e.entries.items in
     let i = c.in-Some-found.i in
-    let h = position-Some (λ (l : Link). alike l.site l.other c.args.a c.args.b) xs i no_link (sym c.find-found.ensures ∙ c.in-Some-found.is) in
+    let h = found_at xs c.args.a c.args.b _ i c.find-found.ensures c.in-Some-found.is in
     let fit = moved_fit c.args.a c.args.b x.sites _ c.count.ensures c.in_default.ensures in
     let P : List Link → Type 0 = λ ys. Cutting x xs ys c.args.a c.args.b c.args.k (Ok tt) in
     subst P (sym (written xs c.deref_mut.result.now i c.args.k c.deref_mut.ensures.value)) (
