@@ -13,8 +13,8 @@ use settling::fire::lowest_ready;
 use settling::reach::reach;
 use settling::settle::settle;
 
-// Settles within the budget; where it is not enough, makes all heights 0 and refuses. (What is lent stays apart: in a
-// struct, each call would have to promise of each part that it is the same memory, as long as before.)
+// Settles within the budget; where it is not enough, makes all heights 0 and refuses.
+// (What is lent stays apart: in a struct, each call would have to promise that each part is the same memory.)
 fn settle_within<B: Board>(
     board: &B,
     heights: &mut [u64],

@@ -54,6 +54,7 @@ fn prepare<B: Board>(board: &B, rounds: &mut [u32], bytes: &mut [u8])
 }
 
 // What burns: the heights, the sites that wait, and a mark for each site, all over lent memory.
+// (The rounds stay outside: once the struct is gone, the check knows only the length of what was lent to it.)
 #[derive(Drop)]
 struct Fire<'a> {
     heights: &'a [u64],
