@@ -1,5 +1,5 @@
 -- What is left to show of `after`.
-use Rattle.std.proofs.Common.{◌≡◌, ◌+◌, ◌<◌, ◌%◌, sym, ◌∙◌, ap, inl, inr, arith}
+use Rattle.std.proofs.Common.{◌%◌, sym, ◌∙◌, ap, inl, inr, arith}
 use Rattle.std.proofs.Math.Nat.{mod_self, mod-eq_of_lt}
 use Rattle.ring.specs.Round.{after_is}
 use Rattle.ring.proofs.Ring.after.Goals as goal

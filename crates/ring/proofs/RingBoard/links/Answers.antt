@@ -1,5 +1,5 @@
 -- What is left to show of `links`.
-use Rattle.std.proofs.Common.{◌≡◌, Bool, false, ◌||◌, ◌==◌, sym, ◌∙◌, ap, inl, arith}
+use Rattle.std.proofs.Common.{◌≡◌, false, ◌||◌, ◌==◌, sym, ◌∙◌, ap, inl, arith}
 use Rattle.std.proofs.lemmas.Bool.{eq-eqb, ne_eqb}
 use Rattle.board.specs.Grids.{one}
 use Rattle.board.proofs.Ones.{from_bool_is}
