@@ -60,7 +60,8 @@ impl<'a, B: Board> Certificate<'a, B> {
     }
 
     // Looks at what waits, until nothing does: a site that is not lower than its links into the set leaves it, and its
-    // neighbours are looked at again.
+    // neighbours are looked at again. List and bytes stay two parameters: of a struct of both with the fact `narrowing`
+    // the check asks for it (`invariant_of-self`) right after `pop`, where it does not hold.
     fn narrow(&self, list: &mut WaitingList<usize>, bytes: &mut [u8])
         requires bytes { (B.Board.shape self.now.board.now).sites ≤ length bytes.old }
         requires room { (B.Board.shape self.now.board.now).sites ≤ room list.old }
