@@ -98,10 +98,6 @@ line_taken s w at next lt within moved taken =
           ∙ ap (λ b. record { bytes = w; ended = b } ∷ lines (drop next s)) (sym (le-leb next (length s) more))
     ]
 
-pub empty_is : (w : List ℕ) → length w < 1 → w ≡ []
-empty_is [] h = refl
-empty_is (b ∷ w) h = absurd (omega arith)
-
 pub single_is : (w : List ℕ) (b : ℕ) → length w ≡ 1 → get_or w 0 0 ≡ b → w ≡ b ∷ []
 single_is [] b one is = absurd (omega arith)
 single_is (x ∷ []) b one is = ap (λ y. y ∷ []) is

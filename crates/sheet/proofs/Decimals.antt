@@ -25,12 +25,12 @@ pub no_text : {E : Type 0} {bs : List ℕ} (P : Bor (List ℕ) → Type 0) (V : 
 no_text P V (Ok u) h e n = absurd (cc)
 no_text {bs = bs} P V (Err d) h e n = h.0 (text_of bs n)
 
-parsed_here : {E : Type 0} (w : List ℕ) (r : Result ℕ E) → 0 < length w → length w ≤ 13 → 49 ≤ get_or w 0 0 → OkIff r (((i : ℕ) → i < length w → IsInRange 48 57 (get_or w i 0)) × (0 < length w) × (digits_value 10 w < 2 ^ 64)) (digits_value 10 w) → MatchOption (result_ok r) (Number w → ⊥) (λ n. Number w × (n ≡ digits_value 10 w))
-parsed_here w (Ok n) some short first h = (record { some = some; short = short; digits = h.0.0; plain = λ e. absurd (omega arith) }, h.1)
-parsed_here w (Err e) some short first h = λ n. h (n.digits, some, omega (arith, digits_value_short own w 13 n.digits short))
+parsed_here : {E : Type 0} (w : List ℕ) (r : Result ℕ E) → 0 < length w → length w ≤ 13 → 48 ≤ get_or w 0 0 → (get_or w 0 0 ≡ 48 → length w ≡ 1) → OkIff r (((i : ℕ) → i < length w → IsInRange 48 57 (get_or w i 0)) × (0 < length w) × (digits_value 10 w < 2 ^ 64)) (digits_value 10 w) → MatchOption (result_ok r) (Number w → ⊥) (λ n. Number w × (n ≡ digits_value 10 w))
+parsed_here w (Ok n) some short first plain h = (record { some = some; short = short; digits = h.0.0; plain = plain }, h.1)
+parsed_here w (Err e) some short first plain h = λ n. h (n.digits, some, omega (arith, digits_value_short own w 13 n.digits short))
 
--- a word that begins with a digit from 1 on
-pub parsed : {E : Type 0} (w t : List ℕ) (r : Result ℕ E) → 0 < length w → length w ≤ 13 → 49 ≤ get_or w 0 0 → t ≡ w → ParsesUnsigned 64 10 t r → MatchOption (result_ok r) (Number w → ⊥) (λ n. Number w × (n ≡ digits_value 10 w))
-parsed {E} w t r some short first is h =
+-- a short word that begins with a digit, and with 0 only in one byte
+pub parsed : {E : Type 0} (w t : List ℕ) (r : Result ℕ E) → 0 < length w → length w ≤ 13 → 48 ≤ get_or w 0 0 → (get_or w 0 0 ≡ 48 → length w ≡ 1) → t ≡ w → ParsesUnsigned 64 10 t r → MatchOption (result_ok r) (Number w → ⊥) (λ n. Number w × (n ≡ digits_value 10 w))
+parsed {E} w t r some short first plain is h =
     let at_w : ParsesUnsigned 64 10 w r = subst (λ v. ParsesUnsigned 64 10 v r) is h in
-    parsed_here w r some short first (parse_plain own 64 w r at_w (λ e. omega arith))
+    parsed_here w r some short first plain (parse_plain own 64 w r at_w (λ e. omega arith))

@@ -14,8 +14,8 @@ fn decimal(word: &[u8]) -> Option<u64>
     ensures { MatchOption result (¬ Number word.now) (λ n. Number word.now × (n ≡ digits_value 10 word.now)) }
 {
     match word {
-        [b'0'] => Some(0),
-        [b'1'..=b'9', ..] if word.len() <= 13 => str::from_utf8(word).ok()?.parse().ok(),
+        [b'0', _, ..] => None,
+        [b'0'..=b'9', ..] if word.len() <= 13 => str::from_utf8(word).ok()?.parse().ok(),
         _ => None,
     }
 }
