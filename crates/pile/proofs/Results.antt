@@ -1,5 +1,5 @@
 -- The worked results: the figures computed, and no refusal on the way.
-use Rattle.std.proofs.Common.{◌≡◌, ℕ, ◌+◌, ◌<◌, ◌≤◌, None, refl, ap, ◌∙◌, subst, inl, inr, arith}
+use Rattle.std.proofs.Common.{◌≡◌, ℕ, ◌+◌, ◌<◌, ◌≤◌, None, refl, ap, ◌∙◌, subst, inl, inr, arith, length}
 use Rattle.refusal.specs.declared.Part.TheVariants as part
 use Rattle.refusal.specs.declared.Refusal.{Refusal}
 use Rattle.refusal.specs.Table.{Refused}
@@ -53,7 +53,7 @@ pub is_grid : (r c : ℕ) → r ≡ 1 → c ≡ 3 → grid_of r c ≡ grid_of 1 
 is_grid r c p q = ap (λ x. grid_of x c) p ∙ ap (grid_of 1) q
 
 -- a record that fits, on a list with room for it and for its links
-pub add_goes : (x : LinkList) (b : Shape) (a : ℕ) (e : End) (k : ℕ) (r : Refusal) → shape_of x ≡ b → Fit b.sites a e → 1 ≤ k → all_links b + weight e k ≤ 500000 → x.held < 4096
+pub add_goes : (x : LinkList) (b : Shape) (a : ℕ) (e : End) (k : ℕ) (r : Refusal) → shape_of x ≡ b → Fit b.sites a e → 1 ≤ k → all_links b + weight e k ≤ 500000 → length x.records.items < 4096
     → Refused (add_checks x a e k) part.Board r → ⊥
 add_goes x b a e k r is fit one low room h = elim h.by [
   | inl f ↦ elim f.1.1 [ inl z ↦ omega arith | inr z ↦ omega (arith, ap all_links is) ]
