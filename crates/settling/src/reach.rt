@@ -11,12 +11,11 @@ use board::Board;
 use refusal::{Part, Refusal, Row};
 use waiting::WaitingList;
 
-// No site is found yet.
-fn clear(bytes: &mut [u8])
-    ensures { (u : ℕ) → u < length bytes.new → mark bytes.new u ≡ 0 }
-{
-    bytes.fill(0);
-}
+// The mark of a site that is not found yet.
+const UNFOUND: u8 = 0;
+
+// The mark of a site that is found, and what it is linked to as well.
+const VISITED: u8 = 2;
 
 // Finds each site that is linked to the drain.
 fn from_drain<B: Board, E: Entry>(board: &B, list: &mut WaitingList<E>, bytes: &mut [u8])
@@ -29,7 +28,7 @@ fn from_drain<B: Board, E: Entry>(board: &B, list: &mut WaitingList<E>, bytes: &
 {
     for v in 0..board.count() {
         if board.drain(v) >= 1 {
-            wait(list, bytes, v, 0);
+            wait(list, bytes, v, UNFOUND);
         }
     }
 }
@@ -41,11 +40,10 @@ fn search<B: Board, E: Entry>(board: &B, list: &mut WaitingList<E>, bytes: &mut 
     requires searching { Searching E.Entry.site (B.Board.shape board.now) (waits list.old) bytes.old }
     ensures { Searched (B.Board.shape board.now) bytes.new }
 {
-    loop {
-        let Some(e) = list.pop() else { break };
+    while let Some(e) = list.pop() {
         let v = e.site_of();
-        bytes[v] = 2;
-        wait_round(board, list, bytes, v, 0);
+        bytes[v] = VISITED;
+        wait_round(board, list, bytes, v, UNFOUND);
     }
 }
 
@@ -54,7 +52,7 @@ fn lowest_unmarked(bytes: &[u8], n: usize) -> Option<usize>
     requires { n ≤ length bytes.now }
     ensures { LowestUnmarked n bytes.now result }
 {
-    bytes[..n].iter().position(|b| *b == 0)
+    bytes[..n].iter().position(|b| *b == UNFOUND)
 }
 
 // The lowest site that does not reach the drain, or none: all do. Work memory may read anything afterwards.
@@ -70,7 +68,7 @@ pub fn reach<B: Board, E: Entry>(
     if waiting.len() < n || bytes.len() < n {
         return Err(part.refuse(Row::Memory));
     }
-    clear(bytes);
+    bytes.fill(UNFOUND);
     let mut list = WaitingList::new(waiting);
     from_drain(board, &mut list, bytes);
     search(board, &mut list, bytes);

@@ -22,6 +22,9 @@ pub struct Outcome {
     pub still: bool,
 }
 
+// The mark of a site that does not wait.
+const IDLE: u8 = 0;
+
 // Fires `v` as often as its height and `limit` allow, and says how often.
 fn visit<B: Board>(board: &B, heights: &mut [u64], v: usize, limit: u64) -> u64
     requires sized { length heights.old ≡ (B.Board.shape board.now).sites }
@@ -72,12 +75,12 @@ fn work_off<B: Board>(
     let mut fired = 0;
     while fired < limit {
         let Some(v) = list.pop() else { break };
-        marks[v] = 0;
+        marks[v] = IDLE;
         let times = visit(board, heights, v, limit - fired);
         if times > 0 {
             fired += times;
             note(counts, v, times);
-            wait_round(board, list, marks, v, 0);
+            wait_round(board, list, marks, v, IDLE);
         }
     }
     fired
@@ -93,9 +96,9 @@ fn scan<B: Board>(board: &B, heights: &[u64], list: &mut WaitingList<usize>, mar
     ensures room { room list.new ≡ room list.old }
 {
     for v in 0..board.count() {
-        marks[v] = 0;
+        marks[v] = IDLE;
         if can_fire(board, heights, v) {
-            wait(list, marks, v, 0);
+            wait(list, marks, v, IDLE);
         }
     }
 }

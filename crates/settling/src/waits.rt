@@ -9,6 +9,9 @@ use board::Board;
 use board::neighbours::Neighbours;
 use waiting::WaitingList;
 
+// The mark of a site that waits. (Marks are numbers, since the memory that the caller lends for them is bytes.)
+pub const WAITS: u8 = 1;
+
 // Has `v` wait as the last, if its mark reads `idle`.
 pub fn wait<E: Entry>(list: &mut WaitingList<E>, marks: &mut [u8], v: usize, idle: u8)
     ensures turned { Turned (λ u. u ≡ v) idle marks.old marks.new }
@@ -16,7 +19,7 @@ pub fn wait<E: Entry>(list: &mut WaitingList<E>, marks: &mut [u8], v: usize, idl
     ensures room { room list.new ≡ room list.old }
 {
     if v < marks.len() && marks[v] == idle {
-        marks[v] = 1;
+        marks[v] = WAITS;
         let _pushed = list.push(E::of_site(v));
     }
 }
