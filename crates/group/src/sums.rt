@@ -83,8 +83,8 @@ fn lack<B: Board>(board: &B, answer: &mut [u64])
     requires low { (v : ℕ) → v < (B.Board.shape board.now).sites → at answer.old v < fires_from (B.Board.shape board.now) v }
     ensures { (v : ℕ) → v < (B.Board.shape board.now).sites → at answer.new v + at answer.old v + 2 ≡ 2 * fires_from (B.Board.shape board.now) v }
 {
-    for (v, height) in answer.iter_mut().enumerate() {
-        *height = twice_full(board, v) - *height;
+    for (v, low) in answer.iter_mut().enumerate() {
+        *low = twice_full(board, v) - *low;
     }
 }
 

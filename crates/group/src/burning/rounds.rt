@@ -94,6 +94,7 @@ impl<'a> Fire<'a> {
         ensures steady { Steady (B.Board.shape board.now) (at self.old.heights.now) 0 (waits self.new.list) self.new.marks.now rounds.new }
         ensures same { self.new.heights.now ≡ self.old.heights.now }
     {
+        // By site, since `hold` looks up the site's height, number and mark.
         for u in 0..self.heights.len() {
             self.hold(board, rounds, u, 0);
         }
