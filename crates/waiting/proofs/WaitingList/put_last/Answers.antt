@@ -1,5 +1,5 @@
 -- What is left to show of `put_last`.
-use Rattle.std.proofs.Common.{length, arith}
+use Rattle.std.proofs.Common.{arith}
 use Rattle.waiting.proofs.Circles.{push_after, length_waiting}
 use Rattle.waiting.proofs.WaitingList.put_last.Goals as goal
 
