@@ -42,12 +42,7 @@ POINTS = {
         ("a struct copied field by field", r"site: old\.site"),
         ("equality by hand", r"fn is_alike\("),
     ],
-    "5": [
-        ("length of a lent list", r"requires (?:heights|numbers|sized|bytes|room|end|counted|marks|list|waiting|counts) \{"),
-        ("a start, counts and an end together", r"start: &\[u64\],\s*counts: &\[u64\],\s*end: &\[u64\]"),
-        ("the sides of a grid together", r"rows: usize, columns: usize, v"),
-        ("the sites of a pair together", r"a: usize, b: usize, p"),
-    ],
+    "5": [],
     "6": [
         ("a buffer with a number of those held", r"^    held: usize,|^    len: usize,"),
         ("lists side by side", r"^    (?:pub )?(?:heights|counts|opened): Vec<u64>,"),
@@ -57,6 +52,28 @@ POINTS = {
         ("functions that differ in the call they make", r"^fn (?:resume|drop_grains|close|shelve)<"),
     ],
 }
+
+
+# Point 5 is counted by crate: clauses, and runs of parameters, that three or more functions share.
+FN = re.compile(r"\bfn (\w+)(?:<[^(]*>)?\(([^{;]*?)\)(?: -> [^{;]*?)?\n((?:\s+(?:requires|ensures)[^\n]*\n)*)", re.M)
+
+
+def shared(folder):
+    clauses, runs = {}, {}
+    for path in sorted(glob.glob(f"{folder}/src/**/*.rt", recursive=True)):
+        for name, parameters, contract in FN.findall(text(path)[1]):
+            who = (path, name)
+            for kind, fact in re.findall(r"(requires|ensures) (?:\w+ )?\{ (.*) \}", contract):
+                if "InOrder" not in fact:
+                    clauses.setdefault((kind, fact.replace(".old", ".now")), set()).add(who)
+            words = [w.strip() for w in re.split(r",(?![^<(\[]*[>)\]])", parameters) if w.strip() and "self" not in w]
+            for i in range(len(words)):
+                for j in range(i + 2, len(words) + 1):
+                    runs.setdefault(tuple(words[i:j]), set()).add(who)
+    facts = [(" ".join(k), v) for k, v in clauses.items() if len(v) >= 3]
+    long = [(k, v) for k, v in runs.items() if len(v) >= 3]
+    whole = [(", ".join(k), v) for k, v in long if not any(len(o) > len(k) and v <= w and set(k) <= set(o) for o, w in long)]
+    return facts, whole
 
 
 def text(path):
@@ -73,6 +90,14 @@ def main():
             continue
         whole = 0
         lines = []
+        if point == "5":
+            for folder in sorted(glob.glob("crates/*")):
+                for what, found in zip(("facts", "runs of parameters"), shared(folder)):
+                    whole += len(found)
+                    if found:
+                        lines.append(f"    {len(found):3} {what} of {folder[7:]}")
+                    if listing:
+                        lines += [f"          {t} ({len(v)}: {', '.join(sorted(n for _, n in v))})" for t, v in found]
         for what, pattern in rows:
             found = []
             for path in sorted(glob.glob("crates/*/src/**/*.rt", recursive=True)):
