@@ -42,7 +42,7 @@ impl<'a> Records<'a> {
     }
 }
 
-// The sites that have fired since the opening.
+// The sites that have fired since the opening. (A `usize` has no `From` into `u64`.)
 fn area_since(counts: &[u64], opened: &[u64]) -> u64
     ensures { result ≡ count_by (λ p. nat_lt p.1 p.0) (zip counts.now opened.now) }
 {

@@ -39,7 +39,7 @@ pub(crate) fn fire_counted<B: Board>(
 {
     fire_near(board, heights, v, Part::Bench).unwrap();
     counts[v] += 1;
-    board.drain(v) as u64
+    u64::from(board.drain(v))
 }
 
 // Marks each site that can fire by 1, every other by 0; how many can.
@@ -51,7 +51,7 @@ pub(crate) fn mark_ready<B: Board>(board: &B, heights: &[u64], marks: &mut [u8])
     let mut ready = 0;
     for (v, mark) in marks.iter_mut().enumerate() {
         *mark = u8::from(can_fire(board, heights, v));
-        ready += *mark as u64;
+        ready += u64::from(*mark);
     }
     ready
 }

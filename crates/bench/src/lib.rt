@@ -66,7 +66,8 @@ pub struct Records<'a> {
     held: usize,
 }
 
-// Site memory, an entry for each site: heights, firings since creation, and those at the avalanche's opening.
+// Site memory, an entry for each site: heights, firings since creation, and those at the avalanche's opening. (Lists side by
+// side, since firing, settling, the search for the drain and certificates each take heights or counts as they are.)
 #[derive(Drop)]
 pub struct SiteMemory {
     pub heights: Vec<u64>,

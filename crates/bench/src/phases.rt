@@ -31,7 +31,7 @@ impl From<Phase> for u8 {
 }
 
 impl Phase {
-    // The phase's name.
+    // The phase's name. (Display writes it; the name itself cannot fail, as writing can.)
     pub fn name(self) -> &'static str
         ensures { result.now ≡ phase_name self }
     {

@@ -27,7 +27,7 @@ impl From<Word> for u8 {
 }
 
 impl Word {
-    // The word's name.
+    // The word's name. (Display writes it; the name itself cannot fail, as writing can.)
     pub fn name(self) -> &'static str
         ensures { result.now ≡ word_name self }
     {

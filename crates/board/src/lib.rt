@@ -57,7 +57,7 @@ pub fn degree<B: Board>(board: &B, v: usize) -> u32
     board.degree(v)
 }
 
-// What follows from the laws, of every board and of its degrees.
+// What follows from the laws, of every board and of its degrees. (It answers true, so that there is a body to break.)
 pub fn laws_hold() -> bool
     ensures { (result ≡ true) × ((b : Shape) → Sound b → Follows b × Degrees b) }
 {

@@ -49,7 +49,8 @@ pub fn far_end(l: Link, v: usize) -> Option<usize>
     }
 }
 
-// Whether `l` is of the ends `a` and `b`, either first.
+// Whether `l` is of the ends `a` and `b`, either first. (No derived equality: the order of the ends does not count, nor does
+// the number.)
 pub fn is_alike(l: Link, a: usize, b: End) -> bool
     ensures { result ≡ alike l.site l.other a b }
 {

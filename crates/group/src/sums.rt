@@ -62,7 +62,7 @@ fn twice_full<B: Board>(board: &B, v: usize) -> u64
     requires reach { AllReach (B.Board.shape board.now) }
     ensures { result + 2 ≡ 2 * fires_from (B.Board.shape board.now) v }
 {
-    2 * (degree(board, v) as u64 - 1)
+    2 * (u64::from(degree(board, v)) - 1)
 }
 
 // Writes 2M into `answer`.

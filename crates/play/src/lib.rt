@@ -37,7 +37,7 @@ pub enum Answer {
 }
 
 impl Call {
-    // The letter of the call in a sheet.
+    // The letter of the call in a sheet. (No `From`: `char::from(call)` would not say which character.)
     pub fn letter(self) -> char
         ensures { result ≡ letter self }
     {

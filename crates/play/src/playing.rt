@@ -12,8 +12,8 @@ use bench::{Bench, Records, SiteMemory};
 use board::Board;
 use refusal::{Part, Refusal, Row};
 
-// Carries the calls out on a bench that was just created, and ends a ticket that is left. Parameter by parameter, as the
-// caller lends the memory: behind `&mut self`, a struct of several `&mut` slices gets no generated proof.
+// Carries the calls out on a bench that was just created, and ends a ticket that is left. (What is lent stays apart: of a
+// list that a struct's field lends, the caller knows only the length once the struct is gone.)
 fn play_on<B: Board>(
     board: &B,
     bench: &mut Bench,

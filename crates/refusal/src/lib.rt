@@ -64,7 +64,7 @@ impl From<Row> for u8 {
 }
 
 impl Part {
-    // The part's name in reports and documents.
+    // The part's name in reports and documents. (Display writes it; the name itself cannot fail, as writing can.)
     pub fn name(self) -> &'static str
         ensures { result.now ≡ name self }
     {
@@ -87,7 +87,7 @@ impl Part {
         self.refuse_at(row, 0)
     }
 
-    // The part's refusal by a row, at a place.
+    // The part's refusal by a row, at a place. (A `usize` has no `From` into `u64`.)
     pub fn refuse_at(self, row: Row, place: usize) -> Refusal
         ensures { result ≡ record { row = row; place = place; part = self } }
     {

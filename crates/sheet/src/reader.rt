@@ -18,7 +18,8 @@ pub(crate) struct Reader<'a> {
     ghost along: { column ≤ at + 3 },
 }
 
-// The lines that a sheet's reader has before it, behind the last letter; none once one was refused.
+// The lines that a sheet's reader has before it, behind the last letter; none once one was refused. (A flag: nothing goes
+// with it.)
 #[derive(Drop)]
 pub(crate) struct Lines<'a> {
     pub(crate) reader: Reader<'a>,

@@ -70,7 +70,8 @@ impl<'a, T: Copy> WaitingList<'a, T> {
         x
     }
 
-    // Has `x` wait as the last; false where there is no room.
+    // Has `x` wait as the last; false where there is no room. (No Result: `x` is a copy, so an error would have nothing to
+    // hand back.)
     pub fn push(&mut self, x: T) -> bool
         ensures pushed { Pushed self.old x self.new result }
         ensures room { room self.new ≡ room self.old }

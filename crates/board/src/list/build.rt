@@ -35,6 +35,7 @@ impl LinkList {
         if !(1..=500_000).contains(&k) {
             return Err(Part::Board.refuse(Row::Limit));
         }
+        // by `as`, since `u32::try_from` could fail and this cannot: `k` is at most 500,000
         let count = k as u32;
         let total = self.total + weight_of(b, count);
         if total > LIMIT {

@@ -64,6 +64,8 @@ struct Fire<'a> {
     ghost marks_fit: { length heights.now ≤ length marks.now },
 }
 
+// The numbers of `rounds` stay a parameter: of a list that a struct's field lends, the caller knows only the length once the
+// struct is gone.
 impl<'a> Fire<'a> {
     // Holds the height of `u` against its links to what still counts as unburnt; if it is as high, it burns in the
     // round after `last`.
@@ -77,7 +79,7 @@ impl<'a> Fire<'a> {
         ensures held { Held (B.Board.shape board.now) (at self.old.heights.now) last u self.old.marks.now rounds.old (waits self.new.list) self.new.marks.now rounds.new }
         ensures same { self.new.heights.now ≡ self.old.heights.now }
     {
-        if self.heights[u] >= rounds[u] as u64 {
+        if self.heights[u] >= u64::from(rounds[u]) {
             let round = last + 1;
             rounds[u] = round;
             self.marks[u] = WAITS;

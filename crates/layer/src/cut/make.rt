@@ -44,6 +44,7 @@ impl<B: Board> Cut<B> {
         if k > u64::from(self.standing(a, b)) {
             return Err(Part::Cut.refuse(Row::FewLinks));
         }
+        // by `as`, since `u32::try_from` could fail and this cannot: no more than 500,000 links stand
         let count = k as u32;
         match found {
             Some(i) => self.entries[i].count += count,

@@ -1,5 +1,5 @@
 -- What is left to show of `fire_counted`.
-use Rattle.std.proofs.Common.{refl}
+use Rattle.std.proofs.Common.{refl, ◌∙◌}
 use Rattle.refusal.specs.declared.Part.TheVariants.{Bench as the_bench}
 use Rattle.bench.proofs.Waving.{fired_fires, fired_ok, movable_passes}
 use Rattle.bench.proofs.firings.fire_counted.Goals as goal
@@ -17,5 +17,5 @@ returns g c =
     record {
       fires = fired_fires s xs c.fire_near.new.heights c.args.v the_bench c.fire_near.result (movable_passes s xs c.args.counts.now c.args.v c.requires.fit c.requires.on c.requires.can) c.fire_near.ensures;
       counts = refl;
-      drains = c.drain.ensures;
+      drains = c.from.ensures ∙ c.drain.ensures;
     }

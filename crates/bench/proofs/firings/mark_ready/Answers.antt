@@ -11,4 +11,4 @@ loop-v-init g c = (λ u l. absurd (omega arith), refl, omega arith)
 
 pub loop-v-preserved : goal.loop-v-preserved
 loop-v-preserved g c =
-    marked_more (g.B.Board.shape c.args.board.now) (at c.args.heights.now) c.loop-v.marks c.loop-v.v c.from.result c.loop-v.ready c.can_fire.result (omega arith) c.can_fire.ensures c.from.ensures c.loop-v.invariant
+    rw c.from-ready.ensures (marked_more (g.B.Board.shape c.args.board.now) (at c.args.heights.now) c.loop-v.marks c.loop-v.v c.from.result c.loop-v.ready c.can_fire.result (omega arith) c.can_fire.ensures c.from.ensures c.loop-v.invariant)
