@@ -7,7 +7,7 @@ use Rattle.std.proofs.lemmas.List.{take_all, length-append, get_or_append_left}
 use Rattle.std.proofs.lemmas.List.Sums.{fold_more, sum_by_push}
 use Rattle.std.proofs.lemmas.Bool.{cases_lt, cases_eq, cases_Bool, and_left, and_right, cond-true, cond-false, and_parts, not-true, ltb-true, eqb-true, eqb-false, eq-eqb, ne_eqb, and_from, lt-ltb, not_from_false, or_cases, false≢true}
 use Rattle.board.specs.Shape.{sum_below}
-use Rattle.board.specs.Sums.{sum_suc, sum_same, sum_none, sum_plus, sum_swap, sum_at, sum_const, sum_term}
+use Rattle.board.specs.Sums.{sum_suc, sum_same, sum_none, sum_plus, sum_swap, sum_at, sum_more, sum_const, sum_term}
 use Rattle.board.specs.declared.link.End.{End}
 use Rattle.board.specs.declared.link.End.TheVariants.{Site, Drain}
 use Rattle.board.specs.declared.link.Link.{Link}
@@ -122,6 +122,19 @@ pub grow_s : (xs : List Link) (k : ℕ) (l : Link) → k < length xs → (v : �
 unfolding s_of
 grow_s xs k l h v = grow (λ x. to_drain x v) xs k l h
 
+pub grow_weight : (xs : List Link) (k : ℕ) (l : Link) → k < length xs → weights (slice_set xs k l) (k + 1) ≡ weights xs k + weight l.other l.count
+unfolding weights
+grow_weight xs k l h = grow (λ x. weight x.other x.count) xs k l h
+
+pub grow_fit : (xs : List Link) (k n : ℕ) (l : Link) → k < length xs → FitsAll xs k n → Fit n l.site l.other → 1 ≤ l.count → FitsAll (slice_set xs k l) (k + 1) n
+grow_fit xs k n l h all fit one i less = elim (cases_lt i k) [
+  | inl lt ↦ let at : get_or (slice_set xs k l) i no_link ≡ get_or xs i no_link = get_or-set_other xs k i l no_link (omega arith) in rw at (all i lt)
+  | inr ge ↦
+      let same : i ≡ k = omega arith in
+      let at : get_or (slice_set xs k l) i no_link ≡ l = ap (λ j. get_or (slice_set xs k l) j no_link) same ∙ get_or-set_same xs k l no_link h in
+      (ap (λ (x : Link). fits n x.site x.other) at ∙ fit_fits n l.site l.other fit, omega (arith, ap (λ (x : Link). x.count) at))
+]
+
 -- a whole table
 sum_front : (f : Link → ℕ) (xs : List Link) (k : ℕ) → k ≤ length xs → sum_below k (λ i. f (slice_index_or xs i no_link)) ≡ sum_by f (take k xs)
 unfolding sum_below
@@ -184,6 +197,14 @@ m_of_more xs k u v = sum_suc k _
 pub s_of_more : (xs : List Link) (k v : ℕ) → s_of xs (k + 1) v ≡ s_of xs k v + to_drain (slice_index_or xs k no_link) v
 unfolding s_of
 s_of_more xs k v = sum_suc k _
+
+pub m_of_up : (xs : List Link) (i k u v : ℕ) → i ≤ k → m_of xs i u v ≤ m_of xs k u v
+unfolding m_of
+m_of_up xs i k u v h = sum_more i k _ h
+
+pub s_of_up : (xs : List Link) (i k v : ℕ) → i ≤ k → s_of xs i v ≤ s_of xs k v
+unfolding s_of
+s_of_up xs i k v h = sum_more i k _ h
 
 -- a record that fits has no loop, and nothing off the board
 between_not : (n a c : ℕ) (b : End) → Fit n a b → (u v : ℕ) → ((u ≡ v) ⊎ (n ≤ v)) → cond (joins a b u v) c 0 ≡ 0

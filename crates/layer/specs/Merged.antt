@@ -134,6 +134,12 @@ module _ (x : Shape) (o : Option Pair) (p : Pair) (e : merge_active x o ≡ Some
   unfolding merged
   at_s v = ap (λ (y : Shape). y.s v) is_merged
 
+  pub met_m : (u v u1 v1 : ℕ) → u1 ≡ up p.a u → v1 ≡ up p.a v → joined_m p.a p.b x u1 v1 ≡ (merge_of x o).m u v
+  met_m u v u1 v1 eu ev = ap (λ y. joined_m p.a p.b x y v1) eu ∙ ap (joined_m p.a p.b x (up p.a u)) ev ∙ sym (at_m u v)
+
+  pub met_s : (v v1 : ℕ) → v1 ≡ up p.a v → joined_s p.a p.b x v1 ≡ (merge_of x o).s v
+  met_s v v1 ev = ap (joined_s p.a p.b x) ev ∙ sym (at_s v)
+
   pub off_zero : Sound x → (u v : ℕ) → (x.sites - 1 ≤ u) ⊎ (x.sites - 1 ≤ v) → (merge_of x o).m u v ≡ 0
   off_zero ok u v (inl h) = off_left (merge_sound x ok o) u v (omega (arith, at_sites))
   off_zero ok u v (inr h) = (merge_sound x ok o).off u v (omega (arith, at_sites))

@@ -1,7 +1,7 @@
 -- A site left out: the sites around it, a sum without it, a search that passes it over.
-use Rattle.std.specs.Prelude.{◌≡◌, ℕ, ◌+◌, ◌-◌, ◌<◌, ◌≤◌, ◌⊎◌, ◌==◌, ◌≢◌, nat_lt}
+use Rattle.std.specs.Prelude.{◌≡◌, ℕ, ◌+◌, ◌-◌, ◌<◌, ◌≤◌, ◌⊎◌, ◌==◌, ◌≢◌, nat_lt, refl}
 use Rattle.std.proofs.Common.{sym, ◌∙◌, ap, inl, inr, arith}
-use Rattle.std.proofs.lemmas.Bool.{cases_lt, cond-true, cond-false, lt-ltb, le-ltb, ne_eqb}
+use Rattle.std.proofs.lemmas.Bool.{cases_lt, cases_eq, cond-true, cond-false, lt-ltb, le-ltb, eq-eqb, ne_eqb}
 use Rattle.board.specs.Shape.{Least, sum_below}
 use Rattle.layer.specs.Layers.{up, but}
 use Rattle.board.specs.Sums.{sum_suc, sum_add, sum_same}
@@ -43,8 +43,17 @@ sum_drop n w f h =
     let high = sum_same d (λ k. f (up w (w + k))) (λ k. f ((w + 1) + k)) (λ k l. ap f (up_above w (w + k) (omega arith) ∙ omega arith)) in
     omega (arith, whole, part, sum_add (w + 1) d f, sum_suc w f, sum_add w d (λ k. f (up w k)), low, high)
 
+pub but_not : (w u : ℕ) (f : ℕ → ℕ) → 0 < but w f u → u ≢ w
+but_not w u f h e = omega (arith, cond-true (w == u) 0 (f u) (eq-eqb w u (sym e)))
+
+pub but_at : (w : ℕ) (f : ℕ → ℕ) → but w f w ≡ 0
+but_at w f = cond-true (w == w) 0 (f w) (eq-eqb w w refl)
+
 pub but_else : (w k : ℕ) (f : ℕ → ℕ) → (k ≢ w) → but w f k ≡ f k
 but_else w k f h = cond-false (w == k) 0 (f k) (ne_eqb w k (λ e. h (sym e)))
+
+pub but_none : (w k : ℕ) (f : ℕ → ℕ) → f k ≡ 0 → but w f k ≡ 0
+but_none w k f e = elim (cases_eq k w) [ inl p ↦ cond-true (w == k) 0 (f k) (eq-eqb w k (sym p)) | inr p ↦ but_else w k f p ∙ e ]
 
 pub but_up : (w k : ℕ) (f : ℕ → ℕ) → but w f (up w k) ≡ f (up w k)
 but_up w k f = but_else w (up w k) f (up_not w k)

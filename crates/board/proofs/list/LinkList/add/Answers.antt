@@ -8,7 +8,7 @@ use Rattle.board.specs.declared.list.LinkList.{LinkList}
 use Rattle.board.specs.Lists.{listed}
 use Rattle.board.specs.Adding.{shape_of}
 use Rattle.board.specs.Tables.{fits_push, weights_push, fit_quiet}
-use Rattle.board.specs.Listed.{listed_grown, list_total}
+use Rattle.board.specs.Listed.{listed_pushed, list_total}
 use Rattle.board.proofs.list.LinkList.add.Goals as goal
 
 -- the total does not pass the limit
@@ -77,6 +77,6 @@ returns c =
         low b c.args.b c.args.k c.weight_of.result some c.weight_of.ensures (omega arith),
         (fit_quiet b.sites c.args.a c.args.b c.in_default.ensures, ((λ p f. open_ f.1), tt)),
       ),
-      ap (λ xs. listed b.sites (length xs) xs) c.push.ensures.items ∙ listed_grown b.sites b.records.items l,
+      ap (λ xs. listed b.sites (length xs) xs) c.push.ensures.items ∙ listed_pushed b.sites b.records.items l,
       c.push.ensures.len,
     )
