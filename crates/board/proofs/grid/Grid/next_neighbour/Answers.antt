@@ -1,42 +1,47 @@
 -- What is left to show of `next_neighbour`.
-use Rattle.std.proofs.Common.{◌≡◌, ℕ, ◌+◌, ◌-◌, ◌*◌, ◌<◌, nat_le, List, [], ◌∷◌, Option, sym, ◌∙◌, rules, tests}
-use Rattle.std.specs.List.{find, flat_map}
-use Rattle.std.specs.Option.{SomeIff, option_to_list}
-use Rattle.std.proofs.lemmas.Iterator.Consumers.{YieldsList-at}
-use Rattle.std.proofs.lemmas.Iterator.Adapters.{option_map_id, YieldsList-from_flatten, YieldsList-from_once}
-use Rattle.std.proofs.lemmas.Iterator.Search.{find_from_yields_List}
-use Rattle.board.specs.Shape.{NextIs}
-use Rattle.board.specs.Grids.{grid_of, column_of}
-use Rattle.board.specs.GridsLemmas.{next_above, next_left, next_right, next_under, next_none}
-use Rattle.board.proofs.FirstOf.{first_or, then_iff, YieldsList-from_array}
+use Rattle.std.proofs.Common.{arith}
+use Rattle.board.specs.GridsLemmas.{NoAbove, NoLeft, NoRight, NoUnder, next_above, next_left, next_right, next_under, next_none}
 use Rattle.board.proofs.grid.Grid.next_neighbour.Goals as goal
+use Rattle.board.proofs.grid.Grid.next_neighbour.Goals.{else-v-columns-via-then-v-columns+else-v-columns-2, else-v-columns-via-else-v-columns}
+use Rattle.board.proofs.grid.Grid.next_neighbour.Goals.{else-column-gt0-via-then-column-gt0+else-v-j, else-column-gt0-via-else-column-gt0}
+use Rattle.board.proofs.grid.Grid.next_neighbour.Goals.{else-column-columns-via-then-column-columns+else-v-j-2, else-column-columns-via-else-column-columns}
+use Rattle.board.proofs.grid.Grid.next_neighbour.Goals.{else-v-columns-3-via-then-v-columns-3+else-v-columns-4, else-v-columns-3-via-else-v-columns-3}
+
+pub returns-then-v-columns-2 : goal.returns-then-v-columns-2
+returns-then-v-columns-2 c = next_above c.args.self.now.rows c.args.self.now.columns c.args.self.now.ok.2 c.args.v c.args.j c.requires c.if-v-columns.true (omega (arith, c.if-v-columns-2.true))
+
+pub returns-then-v-j : goal.returns-then-v-j
+returns-then-v-j c =
+    let no_above : NoAbove c.args.self.now.rows c.args.self.now.columns c.args.self.now.ok.2 c.args.v c.args.j c.requires =
+    λ h. elim c.else-v-columns.branch [ else-v-columns-via-then-v-columns+else-v-columns-2 w ↦ omega (arith, w.if-v-columns-2.false) | else-v-columns-via-else-v-columns w ↦ omega (arith, h, w.if-v-columns.false) ] in
+    next_left c.args.self.now.rows c.args.self.now.columns c.args.self.now.ok.2 c.args.v c.args.j c.requires no_above c.if-column-gt0.true (omega (arith, c.if-v-j.true))
+
+pub returns-then-v-j-2 : goal.returns-then-v-j-2
+returns-then-v-j-2 c =
+    let no_above : NoAbove c.args.self.now.rows c.args.self.now.columns c.args.self.now.ok.2 c.args.v c.args.j c.requires =
+    λ h. elim c.else-v-columns.branch [ else-v-columns-via-then-v-columns+else-v-columns-2 w ↦ omega (arith, w.if-v-columns-2.false) | else-v-columns-via-else-v-columns w ↦ omega (arith, h, w.if-v-columns.false) ] in
+    let no_left : NoLeft c.args.self.now.rows c.args.self.now.columns c.args.self.now.ok.2 c.args.v c.args.j c.requires =
+    λ h. elim c.else-column-gt0.branch [ else-column-gt0-via-then-column-gt0+else-v-j w ↦ omega (arith, w.if-v-j.false) | else-column-gt0-via-else-column-gt0 w ↦ omega (arith, h, w.if-column-gt0.false) ] in
+    next_right c.args.self.now.rows c.args.self.now.columns c.args.self.now.ok.2 c.args.v c.args.j c.requires no_above no_left c.if-column-columns.true (omega (arith, c.if-v-j-2.true))
+
+pub returns-then-v-columns-4 : goal.returns-then-v-columns-4
+returns-then-v-columns-4 c =
+    let no_above : NoAbove c.args.self.now.rows c.args.self.now.columns c.args.self.now.ok.2 c.args.v c.args.j c.requires =
+    λ h. elim c.else-v-columns.branch [ else-v-columns-via-then-v-columns+else-v-columns-2 w ↦ omega (arith, w.if-v-columns-2.false) | else-v-columns-via-else-v-columns w ↦ omega (arith, h, w.if-v-columns.false) ] in
+    let no_left : NoLeft c.args.self.now.rows c.args.self.now.columns c.args.self.now.ok.2 c.args.v c.args.j c.requires =
+    λ h. elim c.else-column-gt0.branch [ else-column-gt0-via-then-column-gt0+else-v-j w ↦ omega (arith, w.if-v-j.false) | else-column-gt0-via-else-column-gt0 w ↦ omega (arith, h, w.if-column-gt0.false) ] in
+    let no_right : NoRight c.args.self.now.rows c.args.self.now.columns c.args.self.now.ok.2 c.args.v c.args.j c.requires =
+    λ h. elim c.else-column-columns.branch [ else-column-columns-via-then-column-columns+else-v-j-2 w ↦ omega (arith, w.if-v-j-2.false) | else-column-columns-via-else-column-columns w ↦ omega (arith, h, w.if-column-columns.false) ] in
+    next_under c.args.self.now.rows c.args.self.now.columns c.args.self.now.ok.2 c.args.v c.args.j c.requires no_above no_left no_right c.if-v-columns-3.true (omega (arith, c.if-v-columns-4.true))
 
 pub returns : goal.returns
 returns c =
-    let g = c.args.self.now in
-    let v = c.args.v in
-    let j = c.args.j in
-    let some = g.ok.2 in
-    let on : v < g.rows * g.columns = c.requires in
-    let P : Option ℕ → Type 0 = λ r. NextIs (grid_of g.rows g.columns) v j r in
-    let left : SomeIff c.then-left.result (0 < column_of g.columns v) (v - 1) =
-    let is = then_iff c.then-left.result 0 c.place-column.result.column (v - 1) c.then-left.ensures.variant (search rules) in
-    let at = c.place-column.ensures.1 in rw at at is in
-    let right : SomeIff c.then_some-right.result (column_of g.columns v + 1 < g.columns) (v + 1) =
-    let is = then_iff c.then_some-right.result (c.place-column.result.column + 1) g.columns (v + 1) (search rules) (search rules) in
-    let at = c.place-column.ensures.1 in rw at at is in
-    let under : SomeIff c.then_some-under.result (v + g.columns < g.rows * g.columns) (v + g.columns) = then_iff _ (v + g.columns) (g.rows * g.columns) (v + g.columns) (search rules) (search rules) in
-    let all : List ℕ = flat_map option_to_list (c.checked_sub-above.result ∷ c.then-left.result ∷ c.then_some-right.result ∷ c.then_some-under.result ∷ []) in
-    let chosen : P (find (λ u. nat_le j u) all)
-    = first_or P j _ _ _ _ c.checked_sub-above.ensures (next_above g.rows g.columns some v j on) (λ above.
-    first_or P j _ _ _ _ left (next_left g.rows g.columns some v j on above) (λ left.
-    first_or P j _ _ _ _ right (next_right g.rows g.columns some v j on above left) (λ right.
-    first_or P j _ _ _ _ under (next_under g.rows g.columns some v j on above left right) (λ under.
-    next_none g.rows g.columns some v j on above left right under)))) in
-    let first : c.find.result ≡ find (λ u. nat_le j u) all
-    = sym (option_map_id _) ∙ find_from_yields_List {v = λ (x : ℕ). x} (λ u. nat_le j u) _ _ c.find.result c.find.ensures.ran
-    (YieldsList-from_flatten _ _ (λ x. x) option_to_list (λ x k b. YieldsList-from_once x b.0)
-    (YieldsList-at c.flatten.ensures.source (YieldsList-from_array c.into_iter.result _ c.into_iter.ensures.into_iter_gives.0))
-    c.flatten.ensures.front c.flatten.ensures.back c.flatten.ensures.done)
-    (λ x b q k. search (rules, tests)) in
-    rw first chosen
+    let no_above : NoAbove c.args.self.now.rows c.args.self.now.columns c.args.self.now.ok.2 c.args.v c.args.j c.requires =
+    λ h. elim c.else-v-columns.branch [ else-v-columns-via-then-v-columns+else-v-columns-2 w ↦ omega (arith, w.if-v-columns-2.false) | else-v-columns-via-else-v-columns w ↦ omega (arith, h, w.if-v-columns.false) ] in
+    let no_left : NoLeft c.args.self.now.rows c.args.self.now.columns c.args.self.now.ok.2 c.args.v c.args.j c.requires =
+    λ h. elim c.else-column-gt0.branch [ else-column-gt0-via-then-column-gt0+else-v-j w ↦ omega (arith, w.if-v-j.false) | else-column-gt0-via-else-column-gt0 w ↦ omega (arith, h, w.if-column-gt0.false) ] in
+    let no_right : NoRight c.args.self.now.rows c.args.self.now.columns c.args.self.now.ok.2 c.args.v c.args.j c.requires =
+    λ h. elim c.else-column-columns.branch [ else-column-columns-via-then-column-columns+else-v-j-2 w ↦ omega (arith, w.if-v-j-2.false) | else-column-columns-via-else-column-columns w ↦ omega (arith, h, w.if-column-columns.false) ] in
+    let no_under : NoUnder c.args.self.now.rows c.args.self.now.columns c.args.self.now.ok.2 c.args.v c.args.j c.requires =
+    λ h. elim c.else-v-columns-3.branch [ else-v-columns-3-via-then-v-columns-3+else-v-columns-4 w ↦ omega (arith, w.if-v-columns-4.false) | else-v-columns-3-via-else-v-columns-3 w ↦ omega (arith, h, w.if-v-columns-3.false) ] in
+    next_none c.args.self.now.rows c.args.self.now.columns c.args.self.now.ok.2 c.args.v c.args.j c.requires no_above no_left no_right no_under
