@@ -33,13 +33,6 @@ queued_pop n v ws fs long q = record {
   low = low_set n n v 0 fs (omega (arith, popped_on n v ws fs q)) (omega arith) (λ u l ne. q.low u l);
 }
 
--- one site more is looked at, and has no mark yet
-pub queued_more : (n : ℕ) (ws fs : List ℕ) → n < length fs → Queued n ws fs → Queued (n + 1) ws (set fs n 0)
-queued_more n ws fs long q = record {
-  queued = Queues.queued_more (λ u. u) n 0 ws fs long (λ p. omega arith) (omega arith) q.queued;
-  low = low_set (n + 1) n n 0 fs long (omega arith) (λ u l ne. q.low u (omega arith));
-}
-
 -- sites without mark were had wait
 pub queued_turned : (P : ℕ → Type 0) (n : ℕ) (ws fs ws' fs' : List ℕ) → Queued n ws fs → Turned P 0 fs fs' → Searches.Queued (λ v. v) n ws' fs' → Queued n ws' fs'
 queued_turned P n ws fs ws' fs' q t after = record {
@@ -75,31 +68,33 @@ covered_fire b h h' v fs ws fs' long same not all q t u l can = elim (cases_eq u
   ]
 ]
 
--- the sites below n that can fire wait, and no other
-abbrev pub Scanned : (ℕ → Type 0) → ℕ → List ℕ → List ℕ → Type 0
-Scanned P n ws fs = Queued n ws fs × ((u : ℕ) → u < n → P u → at fs u ≡ 1)
+-- of m sites those below n that can fire wait, and no other
+abbrev pub Scanned : (ℕ → Type 0) → ℕ → ℕ → List ℕ → List ℕ → Type 0
+Scanned P m n ws fs = Queued m ws fs × ((u : ℕ) → u < n → P u → at fs u ≡ 1)
 
-pub scanned_skip : (P : ℕ → Type 0) (n : ℕ) (ws fs : List ℕ) → n < length fs → Scanned P n ws fs → (P n → ⊥) → Scanned P (n + 1) ws (set fs n 0)
-scanned_skip P n ws fs long s not = (
-  queued_more n ws fs long s.0,
+pub scanned_none : (P : ℕ → Type 0) (m : ℕ) (ws fs : List ℕ) → length fs ≡ m → Searches.Queued (λ v. v) (length fs) ws fs → ((u : ℕ) → mark fs u ≡ 0) → Scanned P m 0 ws fs
+scanned_none P m ws fs size q nil = (record { queued = subst (λ n. Searches.Queued (λ v. v) n ws fs) size q; low = λ u l. omega (arith, nil u) }, λ u l. absurd (omega arith))
+
+pub scanned_skip : (P : ℕ → Type 0) (m n : ℕ) (ws fs : List ℕ) → Scanned P m n ws fs → (P n → ⊥) → Scanned P m (n + 1) ws fs
+scanned_skip P m n ws fs s not = (
+  s.0,
   λ u l p. elim (cases_eq u n) [
     | inl same ↦ absurd (not (subst P same p))
-    | inr apart ↦ mark_there fs n 0 u apart ∙ s.1 u (omega arith) p
+    | inr apart ↦ s.1 u (omega arith) p
   ],
 )
 
-pub scanned_wait : (P : ℕ → Type 0) (n : ℕ) (ws fs ws' fs' : List ℕ) → n < length fs → Scanned P n ws fs → Turned (λ u. u ≡ n) 0 (set fs n 0) fs'
-    → (Searches.Queued (λ v. v) (n + 1) ws (set fs n 0) → Searches.Queued (λ v. v) (n + 1) ws' fs') → Scanned P (n + 1) ws' fs'
-scanned_wait P n ws fs ws' fs' long s t keeps =
-    let more = queued_more n ws fs long s.0 in (
-      queued_turned (λ u. u ≡ n) (n + 1) ws (set fs n 0) ws' fs' more t (keeps more.queued),
-      λ u l p. elim (cases_eq u n) [
-        | inl same ↦ turned_on (λ k. k ≡ n) (set fs n 0) fs' t u same (omega (arith, length-set fs n 0)) (more.low u l)
-        | inr apart ↦
-            let one : mark (set fs n 0) u ≡ 1 = mark_there fs n 0 u apart ∙ s.1 u (omega arith) p in
-            turned_kept (λ k. k ≡ n) 0 (set fs n 0) fs' t u (λ e. omega arith) ∙ one
-      ],
-    )
+pub scanned_wait : (P : ℕ → Type 0) (m n : ℕ) (ws fs ws' fs' : List ℕ) → n < m → length fs ≡ m → Scanned P m n ws fs → Turned (λ u. u ≡ n) 0 fs fs'
+    → length fs' ≡ m → Searches.Queued (λ v. v) (length fs') ws' fs' → Scanned P m (n + 1) ws' fs'
+scanned_wait P m n ws fs ws' fs' on long s t size after = (
+  queued_turned (λ u. u ≡ n) m ws fs ws' fs' s.0 t (subst (λ k. Searches.Queued (λ v. v) k ws' fs') size after),
+  λ u l p. elim (cases_eq u n) [
+    | inl same ↦ turned_on (λ k. k ≡ n) fs fs' t u same (omega arith) (s.0.low u (omega arith))
+    | inr apart ↦
+        let one : mark fs u ≡ 1 = s.1 u (omega arith) p in
+        turned_kept (λ k. k ≡ n) 0 fs fs' t u (λ e. omega arith) ∙ one
+  ],
+)
 
 -- nothing waits: no site has the mark 1
 pub none_marked : (n : ℕ) (ws fs : List ℕ) → ws ≡ [] → Queued n ws fs → (u : ℕ) → u < n → mark fs u ≡ 1 → ⊥

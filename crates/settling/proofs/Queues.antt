@@ -1,5 +1,5 @@
 -- The waiting list of a search, and its marks.
-use Rattle.std.proofs.Common.{◌≡◌, ℕ, ◌+◌, ◌<◌, ◌≤◌, Bool, true, false, cond, eqb, List, [], ◌∷◌, ◌++◌, length, set, sym, refl, ap, ◌∙◌, subst, inl, inr, arith, length-append, get_or-set_other, get_or-set_same}
+use Rattle.std.proofs.Common.{◌≡◌, ℕ, ◌+◌, ◌<◌, ◌≤◌, Bool, true, false, cond, eqb, ◌⊎◌, List, [], ◌∷◌, ◌++◌, length, set, sym, refl, ap, ◌∙◌, subst, inl, inr, arith, length-append, length-set, get_or-set_other, get_or-set_same}
 use Rattle.std.proofs.lemmas.Bool.{cases_lt, cases_eq, cond-true, cond-false, eq-eqb, ne_eqb}
 use Rattle.board.specs.Shape.{sum_below}
 use Rattle.board.specs.Sums.{sum_const}
@@ -7,6 +7,7 @@ use Rattle.firing.proofs.Sums.{sum_point}
 use Rattle.waiting.specs.declared.WaitingList.{WaitingList}
 use Rattle.waiting.specs.WaitingLists.{waits, room, Pushed}
 use Rattle.settling.specs.Searches.{mark, occurs, Queued}
+use Rattle.settling.specs.Waits.{Rests}
 
 pub hit : (u x : ℕ) → u ≡ x → ◌≡◌ {A = ℕ} (cond (eqb u x) 1 0) 1
 hit u x e = cond-true (eqb u x) 1 0 (eq-eqb u x e)
@@ -19,6 +20,15 @@ mark_here fs v x u l e = ap (mark (set fs v x)) e ∙ get_or-set_same fs v x 0 l
 
 pub mark_there : (fs : List ℕ) (v x u : ℕ) → (u ≡ v → ⊥) → mark (set fs v x) u ≡ mark fs u
 mark_there fs v x u ne = get_or-set_other fs v u x 0 ne
+
+-- as many marks after one was written, and after whatever keeps their number
+pub written_size : (v x : ℕ) (fs fs' fs'' : List ℕ) → fs' ≡ set fs v x → length fs'' ≡ length fs' → length fs'' ≡ length fs
+written_size v x fs fs' fs'' is size = size ∙ ap length is ∙ length-set fs v x
+
+-- none was taken, and so none waits
+pub none_waits : {T : Type 0} (x : ℕ) (es : List T) → Rests x → (es ≡ []) ⊎ (Rests x → ⊥) → es ≡ []
+none_waits x es rests (inl nil) = nil
+none_waits x es rests (inr not) = absurd (not rests)
 
 module _ {T : Type 0} (site : T → ℕ) where
   pub occurs_snoc : (u : ℕ) (e : T) (es : List T) → occurs site u (es ++ e ∷ []) ≡ occurs site u es + cond (eqb u (site e)) 1 0
@@ -95,6 +105,15 @@ module _ {T : Type 0} (site : T → ℕ) where
   -- the first entry goes, its site marked as visited
   pub queued_pop : (n : ℕ) (e : T) (es : List T) (fs : List ℕ) → n ≤ length fs → Queued site n (e ∷ es) fs → Queued site n es (set fs (site e) 2)
   queued_pop n e es fs = queued_pop_as n 2 e es fs (λ p. omega arith) (omega arith)
+
+  -- the first is taken
+  pub taken_on : (n : ℕ) (e : T) (es es' : List T) (fs : List ℕ) → es ≡ e ∷ es' → Queued site n es fs → (site e < n) × (mark fs (site e) ≡ 1)
+  taken_on n e es es' fs is q = popped_on n e es' fs (subst (λ w. Queued site n w fs) is q)
+
+  pub queued_taken : (n v x : ℕ) (e : T) (es es' : List T) (fs : List ℕ) → es ≡ e ∷ es' → v ≡ site e → Rests x → n ≤ length fs → Queued site n es fs → Queued site n es' (set fs v x)
+  queued_taken n v x e es es' fs is on rests long q =
+      subst (λ u. Queued site n es' (set fs u x)) (sym on)
+      (queued_pop_as n x e es' fs (λ one. elim rests [ inl nil ↦ omega arith | inr two ↦ omega arith ]) (elim rests [ inl nil ↦ omega arith | inr two ↦ omega arith ]) long (subst (λ w. Queued site n w fs) is q))
 
   -- a site that does not wait gets another mark by which it does not
   pub queued_set : (n v x : ℕ) (es : List T) (fs : List ℕ) → n ≤ length fs → v < n → (mark fs v ≡ 1 → ⊥) → (x ≡ 1 → ⊥) → x ≤ 2 → Queued site n es fs → Queued site n es (set fs v x)

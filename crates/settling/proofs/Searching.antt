@@ -8,7 +8,7 @@ use Rattle.firing.specs.Reaching.{Reaches, out, along}
 use Rattle.firing.proofs.Sums.{sum_jump}
 use Rattle.settling.specs.Searches.{mark, occurs, Queued, Searching, Searched}
 use Rattle.settling.specs.Waits.{Turned}
-use Rattle.settling.proofs.Queues.{mark_here, mark_there, queued_none, popped_on}
+use Rattle.settling.proofs.Queues.{mark_here, mark_there, popped_on}
 use Rattle.settling.proofs.Waited.{turned_kept, turned_not}
 
 module _ {T : Type 0} (site : T → ℕ) (b : Shape) where
@@ -18,8 +18,8 @@ module _ {T : Type 0} (site : T → ℕ) (b : Shape) where
     pub new : (u : ℕ) → u < b.sites → 1 ≤ mark fs u → (mark fs u ≡ 1) × (1 ≤ b.s u)
     pub all : (u : ℕ) → u < i → 1 ≤ b.s u → 1 ≤ mark fs u
 
-  pub seeded_none : (es : List T) (fs : List ℕ) → es ≡ [] → ((u : ℕ) → u < b.sites → mark fs u ≡ 0) → Seeded 0 es fs
-  seeded_none es fs e nil = record { queued = queued_none site b.sites es fs e nil; new = λ u l m. absurd (omega (arith, nil u l)); all = λ u l s. absurd (omega arith) }
+  pub seeded_none : (es : List T) (fs : List ℕ) → length fs ≡ b.sites → Queued site (length fs) es fs → ((u : ℕ) → mark fs u ≡ 0) → Seeded 0 es fs
+  seeded_none es fs size q nil = record { queued = subst (λ n. Queued site n es fs) size q; new = λ u l m. absurd (omega (arith, nil u)); all = λ u l s. absurd (omega arith) }
 
   pub seeded_skip : (i : ℕ) (es : List T) (fs : List ℕ) → b.s i < 1 → Seeded i es fs → Seeded (i + 1) es fs
   seeded_skip i es fs no' k = record {
@@ -28,9 +28,9 @@ module _ {T : Type 0} (site : T → ℕ) (b : Shape) where
     all = λ u l s. elim (cases_eq u i) [ inl same ↦ absurd (omega (arith, ap b.s same)) | inr apart ↦ k.all u (omega arith) s ];
   }
 
-  pub seeded_more : (i : ℕ) (es : List T) (fs : List ℕ) (es' : List T) (fs' : List ℕ) → i < length fs → 1 ≤ b.s i → Seeded i es fs → Turned (λ u. u ≡ i) 0 fs fs' → Queued site b.sites es' fs' → Seeded (i + 1) es' fs'
-  seeded_more i es fs es' fs' on some k t q = record {
-    queued = q;
+  pub seeded_more : (i : ℕ) (es : List T) (fs : List ℕ) (es' : List T) (fs' : List ℕ) → i < length fs → 1 ≤ b.s i → Seeded i es fs → Turned (λ u. u ≡ i) 0 fs fs' → length fs' ≡ b.sites → Queued site (length fs') es' fs' → Seeded (i + 1) es' fs'
+  seeded_more i es fs es' fs' on some k t size q = record {
+    queued = subst (λ n. Queued site n es' fs') size q;
     new = λ u l m. elim (t.only u) [
       | inl same ↦ let was = k.new u l (omega arith) in (same ∙ was.0, was.1)
       | inr new ↦ (new.1, subst (λ x. 1 ≤ b.s x) (sym new.2) some)
@@ -63,11 +63,15 @@ module _ {T : Type 0} (site : T → ℕ) (b : Shape) where
         elim (t.only u) [ inl stands ↦ omega arith | inr new ↦ omega (arith, new.0) ]
   ]
 
+  -- a visit of the first site that waits
+  pub visit_turned : (v : ℕ) (e : T) (fs fs' fs'' : List ℕ) → v ≡ site e → fs' ≡ set fs (site e) 2 → Turned (λ u. 0 < b.m v u) 0 fs' fs'' → Turned (λ u. 0 < b.m (site e) u) 0 (set fs (site e) 2) fs''
+  visit_turned v e fs fs' fs'' is set_is t = subst (λ x. Turned (λ u. 0 < b.m (site e) u) 0 x fs'') set_is (subst (λ x. Turned (λ u. 0 < b.m x u) 0 fs' fs'') is t)
+
   -- one visit: v comes off the list, and what it is linked to is found
-  pub searching_more : Sound b → (e : T) (es es'' : List T) (fs fs'' : List ℕ) → b.sites ≤ length fs → Searching site b (e ∷ es) fs → Turned (λ u. 0 < b.m (site e) u) 0 (set fs (site e) 2) fs'' → Queued site b.sites es'' fs''
+  pub searching_more : Sound b → (e : T) (es es'' : List T) (fs fs'' : List ℕ) → b.sites ≤ length fs → Searching site b (e ∷ es) fs → Turned (λ u. 0 < b.m (site e) u) 0 (set fs (site e) 2) fs'' → length fs'' ≡ b.sites → Queued site (length fs'') es'' fs''
       → Searching site b es'' fs''
-  searching_more ok e es es'' fs fs'' long s t q = record {
-    queued = q;
+  searching_more ok e es es'' fs fs'' long s t size q = record {
+    queued = subst (λ n. Queued site n es'' fs'') size q;
     sound = λ u l m. elim (cases_lt 0 (mark fs u)) [
       | inl p ↦ s.sound u l p
       | inr p ↦ elim (t.only u) [
@@ -107,16 +111,16 @@ module _ {T : Type 0} (site : T → ℕ) (b : Shape) where
       ]
 
   -- and the sum of the marks grows, which is at most twice the sites
-  pub searching_less : (e : T) (es es'' : List T) (fs fs'' : List ℕ) → b.sites ≤ length fs → Queued site b.sites (e ∷ es) fs → Turned (λ u. 0 < b.m (site e) u) 0 (set fs (site e) 2) fs'' → Queued site b.sites es'' fs''
+  pub searching_less : (e : T) (es es'' : List T) (fs fs'' : List ℕ) → b.sites ≤ length fs → Queued site b.sites (e ∷ es) fs → Turned (λ u. 0 < b.m (site e) u) 0 (set fs (site e) 2) fs'' → length fs'' ≡ b.sites → Queued site (length fs'') es'' fs''
       → b.sites + b.sites - sum_below b.sites (mark fs'') < b.sites + b.sites - sum_below b.sites (mark fs)
-  searching_less e es es'' fs fs'' long q t q'' =
+  searching_less e es es'' fs fs'' long q t size q'' =
       let was = popped_on site b.sites e es fs q in
       let two : mark (set fs (site e) 2) (site e) ≡ 2 = mark_here fs (site e) 2 (site e) (omega (arith, was.0)) refl in
       omega (
         arith,
         sum_jump b.sites (mark fs) (mark fs'') (site e) 1 was.0 (omega (arith, was.1, turned_kept (λ u. 0 < b.m (site e) u) 0 (set fs (site e) 2) fs'' t (site e) (λ z. omega arith)))
             (λ u l. marks_after (site e) fs fs'' (omega (arith, was.0)) t u (omega (arith, was.1))),
-        sum_const b.sites 2 (mark fs'') q''.most,
+        sum_const b.sites 2 (mark fs'') (λ u l. q''.most u (omega arith)),
       )
 
   -- nothing waits: the search is whole

@@ -1,15 +1,14 @@
 // Reach: which sites have a chain of links to the drain, searched from the drain outwards.
-ghost use Rattle.std.specs.Prelude.{◌≡◌, ℕ, ◌<◌, ◌≤◌, [], length};
+ghost use Rattle.std.specs.Prelude.{◌≡◌, ℕ, ◌<◌, length};
 ghost use Rattle.refusal.specs.Table.{InOrder, rows};
-ghost use Rattle.waiting.specs.WaitingLists.{waits, room};
+ghost use Rattle.waiting.specs.WaitingLists.{waits};
 ghost use Rattle.settling.specs.Searches.{mark, Searching, Searched, LowestUnmarked};
 ghost use Rattle.settling.specs.Reaching.{ReachIs, work_checks};
 
 use super::Entry;
-use crate::waits::{wait, wait_round};
+use crate::waits::Queue;
 use board::Board;
 use refusal::{Part, Refusal, Row};
-use waiting::WaitingList;
 
 // The mark of a site that is not found yet.
 const UNFOUND: u8 = 0;
@@ -18,41 +17,36 @@ const UNFOUND: u8 = 0;
 const VISITED: u8 = 2;
 
 // Finds each site that is linked to the drain.
-fn from_drain<B: Board, E: Entry>(board: &B, list: &mut WaitingList<E>, bytes: &mut [u8])
-    requires room { (B.Board.shape board.now).sites ≤ room list.old }
-    requires bytes { (B.Board.shape board.now).sites ≤ length bytes.old }
-    requires none { (u : ℕ) → u < (B.Board.shape board.now).sites → mark bytes.old u ≡ 0 }
-    requires empty { waits list.old ≡ [] }
-    ensures searching { Searching E.Entry.site (B.Board.shape board.now) (waits list.new) bytes.new }
-    ensures room { room list.new ≡ room list.old }
+fn from_drain<B: Board, E: Entry>(board: &B, queue: &mut Queue<E>)
+    requires size { length queue.old.marks.now ≡ (B.Board.shape board.now).sites }
+    requires none { (u : ℕ) → mark queue.old.marks.now u ≡ 0 }
+    ensures searching { Searching E.Entry.site (B.Board.shape board.now) (waits queue.new.list) queue.new.marks.now }
+    ensures size { length queue.new.marks.now ≡ length queue.old.marks.now }
 {
     for v in 0..board.count() {
         if board.drain(v) >= 1 {
-            wait(list, bytes, v, UNFOUND);
+            queue.wait(v, UNFOUND);
         }
     }
 }
 
 // Visits what waits, until nothing does.
-fn search<B: Board, E: Entry>(board: &B, list: &mut WaitingList<E>, bytes: &mut [u8])
-    requires room { (B.Board.shape board.now).sites ≤ room list.old }
-    requires bytes { (B.Board.shape board.now).sites ≤ length bytes.old }
-    requires searching { Searching E.Entry.site (B.Board.shape board.now) (waits list.old) bytes.old }
-    ensures { Searched (B.Board.shape board.now) bytes.new }
+fn search<B: Board, E: Entry>(board: &B, queue: &mut Queue<E>)
+    requires size { length queue.old.marks.now ≡ (B.Board.shape board.now).sites }
+    requires searching { Searching E.Entry.site (B.Board.shape board.now) (waits queue.old.list) queue.old.marks.now }
+    ensures searched { Searched (B.Board.shape board.now) queue.new.marks.now }
+    ensures size { length queue.new.marks.now ≡ length queue.old.marks.now }
 {
-    while let Some(e) = list.pop() {
-        let v = e.site_of();
-        bytes[v] = VISITED;
-        wait_round(board, list, bytes, v, UNFOUND);
+    while let Some(e) = queue.take(VISITED) {
+        queue.wait_round(board, e.site_of(), UNFOUND);
     }
 }
 
-// The lowest of the first `n` sites that was not found.
-fn lowest_unmarked(bytes: &[u8], n: usize) -> Option<usize>
-    requires { n ≤ length bytes.now }
-    ensures { LowestUnmarked n bytes.now result }
+// The lowest of the sites with these marks that was not found.
+fn lowest_unmarked(marks: &[u8]) -> Option<usize>
+    ensures { LowestUnmarked (length marks.now) marks.now result }
 {
-    bytes[..n].iter().position(|b| *b == UNFOUND)
+    marks.iter().position(|mark| *mark == UNFOUND)
 }
 
 // The lowest site that does not reach the drain, or none: all do. Work memory may read anything afterwards.
@@ -68,11 +62,10 @@ pub fn reach<B: Board, E: Entry>(
     if waiting.len() < n || bytes.len() < n {
         return Err(part.refuse(Row::Memory));
     }
-    bytes.fill(UNFOUND);
-    let mut list = WaitingList::new(waiting);
-    from_drain(board, &mut list, bytes);
-    search(board, &mut list, bytes);
-    Ok(lowest_unmarked(bytes, n))
+    let mut queue = Queue::new(n, waiting, bytes);
+    from_drain(board, &mut queue);
+    search(board, &mut queue);
+    Ok(lowest_unmarked(queue.marks()))
 }
 
 // The rows by which `reach` refuses.

@@ -1,18 +1,18 @@
 // Settling: legal firings from a waiting list, until no site can fire or a budget is spent.
-ghost use Rattle.std.specs.Prelude.{◌≡◌, ℕ, ◌+◌, ◌^◌, ◌<◌, ◌≤◌, List, [], length};
+ghost use Rattle.std.specs.Prelude.{◌≡◌, ℕ, ◌+◌, ◌^◌, ◌<◌, ◌≤◌, List, length};
 ghost use Rattle.refusal.specs.Table.{InOrder, rows};
 ghost use Rattle.board.specs.Shape.{sum_below};
 ghost use Rattle.firing.specs.Firing.{Still};
-ghost use Rattle.waiting.specs.WaitingLists.{waits, room};
+ghost use Rattle.waiting.specs.WaitingLists.{waits};
 ghost use Rattle.firing.specs.Firing.{at};
+ghost use Rattle.settling.specs.Searches.{mark};
 ghost use Rattle.settling.specs.Marks.{Queued, Covered, Visited};
 ghost use Rattle.settling.specs.Settlings.{Noted, Tallied, Counted, Fit, Checked, SettledBy, settle_checks};
 
 use crate::fire::{all_grains, can_fire, fire_times, is_enough, lowest_ready};
-use crate::waits::{wait, wait_round};
+use crate::waits::Queue;
 use board::{Board, degree};
 use refusal::{Part, Refusal, Row};
-use waiting::WaitingList;
 
 // How many firings were made, and whether no site can fire after them: each says the same whatever the other is, so no variant
 // would leave one out.
@@ -57,48 +57,43 @@ fn work_off<B: Board>(
     board: &B,
     heights: &mut [u64],
     counts: &mut [u64],
-    list: &mut WaitingList<usize>,
-    marks: &mut [u8],
+    queue: &mut Queue<usize>,
     limit: u64,
 ) -> u64
     requires sized { length heights.old ≡ (B.Board.shape board.now).sites }
-    requires bytes { (B.Board.shape board.now).sites ≤ length marks.old }
-    requires room { (B.Board.shape board.now).sites ≤ room list.old }
+    requires size { length queue.old.marks.now ≡ (B.Board.shape board.now).sites }
     requires low { sum_below (B.Board.shape board.now).sites (at heights.old) ≤ 1000000 }
     requires few { (u : ℕ) → at counts.old u + limit < 2 ^ 64 }
-    requires queued { Queued (B.Board.shape board.now).sites (waits list.old) marks.old }
-    requires covered { Covered (B.Board.shape board.now) (at heights.old) marks.old }
+    requires queued { Queued (B.Board.shape board.now).sites (waits queue.old.list) queue.old.marks.now }
+    requires covered { Covered (B.Board.shape board.now) (at heights.old) queue.old.marks.now }
     ensures tallied { Tallied (B.Board.shape board.now) (at heights.old) (at heights.new) counts.old counts.new result }
     ensures within { result ≤ limit }
     ensures still { result < limit → Still (B.Board.shape board.now) (at heights.new) }
 {
     let mut fired = 0;
     while fired < limit {
-        let Some(v) = list.pop() else { break };
-        marks[v] = IDLE;
+        let Some(v) = queue.take(IDLE) else { break };
         let times = visit(board, heights, v, limit - fired);
         if times > 0 {
             fired += times;
             note(counts, v, times);
-            wait_round(board, list, marks, v, IDLE);
+            queue.wait_round(board, v, IDLE);
         }
     }
     fired
 }
 
 // Has each site wait that can fire.
-fn scan<B: Board>(board: &B, heights: &[u64], list: &mut WaitingList<usize>, marks: &mut [u8])
-    requires bytes { (B.Board.shape board.now).sites ≤ length marks.old }
-    requires room { (B.Board.shape board.now).sites ≤ room list.old }
-    requires empty { waits list.old ≡ [] }
-    ensures queued { Queued (B.Board.shape board.now).sites (waits list.new) marks.new }
-    ensures covered { Covered (B.Board.shape board.now) (at heights.now) marks.new }
-    ensures room { room list.new ≡ room list.old }
+fn scan<B: Board>(board: &B, heights: &[u64], queue: &mut Queue<usize>)
+    requires size { length queue.old.marks.now ≡ (B.Board.shape board.now).sites }
+    requires idle { (u : ℕ) → mark queue.old.marks.now u ≡ 0 }
+    ensures queued { Queued (B.Board.shape board.now).sites (waits queue.new.list) queue.new.marks.now }
+    ensures covered { Covered (B.Board.shape board.now) (at heights.now) queue.new.marks.now }
+    ensures size { length queue.new.marks.now ≡ length queue.old.marks.now }
 {
     for v in 0..board.count() {
-        marks[v] = IDLE;
         if can_fire(board, heights, v) {
-            wait(list, marks, v, IDLE);
+            queue.wait(v, IDLE);
         }
     }
 }
@@ -137,9 +132,9 @@ pub(crate) fn settle_counted<B: Board>(
     requires few { (u : ℕ) → at counts.old u + budget < 2 ^ 64 }
     ensures { Counted (B.Board.shape board.now) (at heights.old) (at heights.new) budget result counts.old counts.new }
 {
-    let mut list = WaitingList::new(waiting);
-    scan(board, heights, &mut list, marks);
-    let fired = work_off(board, heights, counts, &mut list, marks, budget);
+    let mut queue = Queue::new(board.count(), waiting, marks);
+    scan(board, heights, &mut queue);
+    let fired = work_off(board, heights, counts, &mut queue, budget);
     let still = fired < budget || lowest_ready(board, heights).is_none();
     Outcome { fired, still }
 }
