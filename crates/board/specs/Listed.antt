@@ -1,13 +1,14 @@
 -- A link list is a board.
-use Rattle.std.specs.Prelude.{◌≡◌, ℕ, ◌+◌, ◌<◌, ◌≤◌, List, [], ◌∷◌, ◌++◌, length, slice_index_or, slice_set, refl}
-use Rattle.std.proofs.Common.{sym, ◌∙◌, inl, inr, arith}
+use Rattle.std.specs.Prelude.{◌≡◌, ℕ, ◌+◌, ◌<◌, ◌≤◌, Bool, true, false, cond, List, [], ◌∷◌, ◌++◌, length, Some, None, Option, ◌==◌, ◌≢◌, nat_lt, slice_index_or, slice_set, refl}
+use Rattle.std.proofs.Common.{sym, ◌∙◌, ap, inl, inr, arith}
 use Rattle.std.proofs.Math.Path.{fun_ext}
-use Rattle.board.specs.Shape.{Sound, all_links}
+use Rattle.std.proofs.lemmas.Bool.{cond-true, cond-false, eq-eqb, ne_eqb, ltb-true, ltb-false}
+use Rattle.board.specs.Shape.{Sound, Least, NextIs, all_links}
 use Rattle.board.specs.Walks.{m_le, s_le}
 use Rattle.board.specs.declared.link.Link.{Link}
-use Rattle.board.specs.Links.{no_link, between, to_drain, FitsAll, m_of, s_of, weights}
-use Rattle.board.specs.Tables.{m_of_sym, m_of_not, s_of_off, table_total, grow_m, grow_s, m_of_more, m_of_up, s_of_more, s_of_up, m_of_push, s_of_push, m_of_none, s_of_none}
-use Rattle.board.specs.Lists.{listed, linked}
+use Rattle.board.specs.Links.{no_link, between, to_drain, far, Fit, FitsAll, m_of, s_of, weights}
+use Rattle.board.specs.Tables.{m_of_sym, m_of_not, s_of_off, table_total, grow_m, grow_s, m_of_more, m_of_up, s_of_more, s_of_up, m_of_push, s_of_push, m_of_none, s_of_none, between_far}
+use Rattle.board.specs.Lists.{listed, linked, nearer}
 use Rattle.board.specs.Adding.{shape_of}
 use Rattle.board.specs.declared.list.LinkList.{LinkList}
 
@@ -44,6 +45,62 @@ links_fit n k i xs ok h u v = omega (arith, m_of_more xs i u v, m_of_up xs (i + 
 
 pub drain_fit : (n k i : ℕ) (xs : List Link) → Sound (listed n k xs) → i < k → (v : ℕ) → s_of xs i v + to_drain (slice_index_or xs i no_link) v ≤ 500000
 drain_fit n k i xs ok h v = omega (arith, s_of_more xs i v, s_of_up xs (i + 1) k v (omega arith), s_le ok v)
+
+-- the least far end among some records, record by record
+pub next_none : (n : ℕ) (xs : List Link) (v j : ℕ) → NextIs (listed n 0 xs) v j None
+next_none n xs v j k h = m_of_none xs v k
+
+module _ (n i : ℕ) (xs : List Link) (v j : ℕ) where
+  step_none : (c : ℕ) (best : Option ℕ) → ((k : ℕ) → j ≤ k → m_of xs (i + 1) v k ≡ m_of xs i v k) → NextIs (listed n i xs) v j best → NextIs (listed n (i + 1) xs) v j best
+  step_none c None e none = λ k h. e k h ∙ none k h
+  step_none c (Some x) e least = record {
+    from = least.from;
+    linked = omega (arith, e x least.from, least.linked);
+    before = λ k h less. e k h ∙ least.before k h less;
+  }
+
+  module _ (c w : ℕ) (one : 1 ≤ c) (e : (k : ℕ) → m_of xs (i + 1) v k ≡ m_of xs i v k + cond (w == k) c 0) where
+    here : m_of xs (i + 1) v w ≡ m_of xs i v w + c
+    here = omega (arith, e w, cond-true (w == w) c 0 (eq-eqb w w refl))
+
+    apart : (k : ℕ) → (w ≢ k) → m_of xs (i + 1) v k ≡ m_of xs i v k
+    apart k ne = omega (arith, e k, cond-false (w == k) c 0 (ne_eqb w k ne))
+
+    takes : j ≤ w → ((k : ℕ) → j ≤ k → k < w → m_of xs i v k ≡ 0) → Least ((listed n (i + 1) xs).m v) j w
+    takes h none = record {
+      from = h;
+      linked = omega (arith, here);
+      before = λ k from less. apart k (λ p. omega arith) ∙ none k from less;
+    }
+
+    step_some : (best : Option ℕ) → NextIs (listed n i xs) v j best → NextIs (listed n (i + 1) xs) v j (nearer j best (Some w))
+    step_some None none = go (nat_lt w j) refl where
+      go : (t : Bool) → nat_lt w j ≡ t → NextIs (listed n (i + 1) xs) v j (cond t None (Some w))
+      go true p = λ k h. apart k (λ q. omega (arith, ltb-true w j p)) ∙ none k h
+      go false p = takes (ltb-false w j p) (λ k from less. none k from)
+    step_some (Some x) least = go (nat_lt w j) (nat_lt w x) refl refl where
+      go : (t u : Bool) → nat_lt w j ≡ t → nat_lt w x ≡ u → NextIs (listed n (i + 1) xs) v j (cond t (Some x) (cond u (Some w) (Some x)))
+      go true u p q = step_none c (Some x) (λ k h. apart k (λ r. omega (arith, ltb-true w j p))) least
+      go false true p q = takes (ltb-false w j p) (λ k from less. least.before k from (omega (arith, ltb-true w x q)))
+      go false false p q = record {
+        from = least.from;
+        linked = omega (arith, e x, least.linked);
+        before = λ k from less. apart k (λ r. omega (arith, ltb-false w x q)) ∙ least.before k from less;
+      }
+
+  pub next_more : (l : Link) → l ≡ slice_index_or xs i no_link → Fit n l.site l.other → 1 ≤ l.count → (best : Option ℕ) → NextIs (listed n i xs) v j best
+      → NextIs (listed n (i + 1) xs) v j (nearer j best (far l.site l.other v))
+  next_more l is fit one best next = go (far l.site l.other v) refl where
+    grown : (k : ℕ) → m_of xs (i + 1) v k ≡ m_of xs i v k + elim (far l.site l.other v) [ Some w ↦ cond (w == k) l.count 0 | None ↦ 0 ]
+    grown k = m_of_more xs i v k ∙ ap (λ y. m_of xs i v k + y) (ap (λ (x : Link). between x v k) (sym is) ∙ between_far n l fit v k)
+
+    none_of : (o : Option ℕ) → nearer j o None ≡ o
+    none_of None = refl
+    none_of (Some x) = refl
+
+    go : (f : Option ℕ) → far l.site l.other v ≡ f → NextIs (listed n (i + 1) xs) v j (nearer j best f)
+    go None p = let at : nearer j best None ≡ best = none_of best in rw at (step_none 0 best (λ k h. omega (arith, grown k, ap {B = ℕ} (λ (o : Option ℕ). elim o [ Some w ↦ cond (w == k) l.count 0 | None ↦ 0 ]) p)) next)
+    go (Some w) p = step_some l.count w one (λ k. grown k ∙ ap {B = ℕ} (λ (o : Option ℕ). m_of xs i v k + elim o [ Some w ↦ cond (w == k) l.count 0 | None ↦ 0 ]) p) best next
 
 pub list_sound : (b : LinkList) → Sound (shape_of b)
 list_sound b = listed_sound b.sites (length b.records.items) b.records.items b.some b.few b.fit (omega (arith, b.adds, b.limit))

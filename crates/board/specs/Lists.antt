@@ -1,5 +1,5 @@
 -- What a link list means.
-use Rattle.std.specs.Prelude.{ℕ, ◌+◌, List}
+use Rattle.std.specs.Prelude.{ℕ, ◌+◌, cond, List, Some, None, Option, nat_lt}
 use Rattle.board.specs.Shape.{Shape}
 use Rattle.board.specs.declared.link.Link.{Link}
 use Rattle.board.specs.Links.{m_of, s_of, between, to_drain}
@@ -19,3 +19,10 @@ linked b l = record {
 -- n sites and no links
 abbrev pub bare : ℕ → Shape
 bare n = record { sites = n; m = λ u v. 0; s = λ v. 0 }
+
+-- the lesser of two sites, the second only from j on
+abbrev pub nearer : ℕ → Option ℕ → Option ℕ → Option ℕ
+nearer j None None = None
+nearer j (Some x) None = Some x
+nearer j None (Some w) = cond (nat_lt w j) None (Some w)
+nearer j (Some x) (Some w) = cond (nat_lt w j) (Some x) (cond (nat_lt w x) (Some w) (Some x))
