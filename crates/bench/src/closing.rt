@@ -85,7 +85,8 @@ impl Bench {
         Ok(next)
     }
 
-    // Ends an open avalanche that is still, with its ticket, and writes its record.
+    // Ends an open avalanche that is still, with its ticket, and writes its record. (By match: `map_err` would move the ticket
+    // where all goes well, too.)
     pub fn close<B: Board>(
         &mut self,
         board: &B,

@@ -51,6 +51,7 @@ impl Bench {
     ) -> Result<Bench, (Refusal, SiteMemory)>
         ensures { Created (B.Board.shape board.now) memory (length waiting.old) (length bytes.old) ceiling result }
     {
+        // by match: `map_err` would move the memory where all goes well, too
         let grains = match may_create(board, &memory, waiting, bytes, ceiling) {
             Ok(grains) => grains,
             Err(refusal) => return Err((refusal, memory)),

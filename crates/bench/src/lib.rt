@@ -75,6 +75,8 @@ pub struct SiteMemory {
     pub opened: Vec<u64>,
 }
 
+// A bench, with its site memory side by side, as it is lent. Each call promises conservation and the law of the state, since
+// these fields are private.
 #[derive(Drop)]
 pub struct Bench {
     heights: Vec<u64>,

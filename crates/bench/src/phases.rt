@@ -120,7 +120,8 @@ impl Bench {
         })
     }
 
-    // Lays an open avalanche aside, and ends its ticket; the avalanche's number.
+    // Lays an open avalanche aside, and ends its ticket; the avalanche's number. (By match: `map_err` would move the ticket
+    // where all goes well, too.)
     pub fn shelve<B: Board>(&mut self, board: &B, ticket: Ticket) -> Result<u64, (Refusal, Ticket)>
         ensures answer { PutBy (B.Board.shape board.now) (state self.old) (state self.new) ticket result }
         ensures conserved { Conserved (state self.new) }

@@ -50,7 +50,7 @@ pub trait Board {
     ghost sound: { (b : Self) → Sound (shape b) };
 }
 
-// The degree of `v`.
+// The degree of `v`. (The function stays beside the method: it is public, and callers name it.)
 pub fn degree<B: Board>(board: &B, v: usize) -> u32
     ensures { result ≡ deg (B.Board.shape board.now) v }
 {

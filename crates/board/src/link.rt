@@ -61,7 +61,8 @@ pub fn is_alike(l: Link, a: usize, b: End) -> bool
     }
 }
 
-// The first of the ends `a` and `b` that is not on a board of `n` sites, or `a` named again.
+// The first of the ends `a` and `b` that is not on a board of `n` sites, or `a` named again. (Two arguments, here and in calls
+// that name a record: a struct of both would hold no fact.)
 pub fn misfit(n: usize, a: usize, b: End) -> Option<usize>
     ensures { Fitting n a b result }
 {

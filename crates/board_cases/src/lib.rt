@@ -2,18 +2,14 @@
 #![tactic(auto)]
 
 ghost use Rattle.std.specs.Prelude.{◌≡◌, ℕ, Ok, Err};
-ghost use Rattle.refusal.specs.Table.{number};
 
-use refusal::{Part, Refusal};
+use refusal::Refusal;
 
-// What a call was refused by: row, place and part.
-pub fn told<T: Drop>(r: Result<T, Refusal>) -> Result<(), (u8, u64, Part)>
-    ensures { elim r [ Ok _ ↦ result ≡ Ok tt | Err e ↦ result ≡ Err (number e.row, e.place, e.part) ] }
+// What a call was refused by, whatever it answers else.
+pub fn told<T: Drop>(r: Result<T, Refusal>) -> Result<(), Refusal>
+    ensures { elim r [ Ok _ ↦ result ≡ Ok tt | Err e ↦ result ≡ Err e ] }
 {
-    match r {
-        Ok(_) => Ok(()),
-        Err(e) => Err((u8::from(e.row), e.place, e.part)),
-    }
+    r.map(|_| ())
 }
 
 #[cfg(test)]
@@ -22,15 +18,15 @@ mod boards {
     use board::grid::Grid;
     use board::list::LinkList;
     use board::{Board, End, degree};
-    use refusal::{Part, Refusal};
+    use refusal::{Part, Refusal, Row};
     use ring::Ring;
     use std::test::Fail;
 
-    fn sides(rows: usize, columns: usize) -> Result<(), (u8, u64, Part)> {
+    fn sides(rows: usize, columns: usize) -> Result<(), Refusal> {
         told(Grid::new(rows, columns))
     }
 
-    fn sites(n: usize) -> Result<(), (u8, u64, Part)> {
+    fn sites(n: usize) -> Result<(), Refusal> {
         told(LinkList::new(n))
     }
 
@@ -81,13 +77,13 @@ mod boards {
 
     #[test]
     fn sides_beyond_their_limits(rt: HostRuntime) {
-        assert_eq!(rt; sides(0, 1), Err((2, 0, Part::Board)));
-        assert_eq!(rt; sides(65, 1), Err((2, 0, Part::Board)));
-        assert_eq!(rt; sides(1, 0), Err((2, 0, Part::Board)));
-        assert_eq!(rt; sides(1, 65), Err((2, 0, Part::Board)));
+        assert_eq!(rt; sides(0, 1), Err(Part::Board.refuse(Row::Limit)));
+        assert_eq!(rt; sides(65, 1), Err(Part::Board.refuse(Row::Limit)));
+        assert_eq!(rt; sides(1, 0), Err(Part::Board.refuse(Row::Limit)));
+        assert_eq!(rt; sides(1, 65), Err(Part::Board.refuse(Row::Limit)));
         assert_eq!(rt; sides(64, 64), Ok(()));
-        assert_eq!(rt; sites(0), Err((2, 0, Part::Board)));
-        assert_eq!(rt; sites(4097), Err((2, 0, Part::Board)));
+        assert_eq!(rt; sites(0), Err(Part::Board.refuse(Row::Limit)));
+        assert_eq!(rt; sites(4097), Err(Part::Board.refuse(Row::Limit)));
     }
 
     #[test]
@@ -129,21 +125,27 @@ mod boards {
     #[test]
     fn numbers_before_sites(rt: HostRuntime) -> Result<(), Fail> {
         let mut list = LinkList::new(1)?;
-        assert_eq!(rt; told(list.add(0, End::Drain, 0)), Err((2, 0, Part::Board)));
+        assert_eq!(rt;
+            told(list.add(0, End::Drain, 0)),
+            Err(Part::Board.refuse(Row::Limit))
+        );
         assert_eq!(rt;
             told(list.add(0, End::Site(0), 250_001)),
-            Err((2, 0, Part::Board))
+            Err(Part::Board.refuse(Row::Limit))
         );
         assert_eq!(rt;
             told(list.add(7, End::Drain, 500_001)),
-            Err((2, 0, Part::Board))
+            Err(Part::Board.refuse(Row::Limit))
         );
         assert_eq!(rt;
             told(list.add(0, End::Site(0), 250_000)),
-            Err((3, 0, Part::Board))
+            Err(Part::Board.refuse_at(Row::Site, 0))
         );
         assert_eq!(rt; told(list.add(0, End::Drain, 500_000)), Ok(()));
-        assert_eq!(rt; told(list.add(0, End::Drain, 1)), Err((2, 0, Part::Board)));
+        assert_eq!(rt;
+            told(list.add(0, End::Drain, 1)),
+            Err(Part::Board.refuse(Row::Limit))
+        );
         assert_eq!(rt; list.drain(0), 500_000);
         Ok(())
     }
@@ -151,22 +153,25 @@ mod boards {
     #[test]
     fn sites_off_the_list(rt: HostRuntime) -> Result<(), Fail> {
         let mut list = LinkList::new(3)?;
-        assert_eq!(rt; told(list.add(3, End::Drain, 1)), Err((3, 3, Part::Board)));
+        assert_eq!(rt;
+            told(list.add(3, End::Drain, 1)),
+            Err(Part::Board.refuse_at(Row::Site, 3))
+        );
         assert_eq!(rt;
             told(list.add(0, End::Site(3), 1)),
-            Err((3, 3, Part::Board))
+            Err(Part::Board.refuse_at(Row::Site, 3))
         );
         assert_eq!(rt;
             told(list.add(9, End::Site(8), 1)),
-            Err((3, 9, Part::Board))
+            Err(Part::Board.refuse_at(Row::Site, 9))
         );
         assert_eq!(rt;
             told(list.add(2, End::Site(2), 1)),
-            Err((3, 2, Part::Board))
+            Err(Part::Board.refuse_at(Row::Site, 2))
         );
         assert_eq!(rt;
             told(list.add(9_999_999_999_999, End::Drain, 1)),
-            Err((3, 9_999_999_999_999, Part::Board))
+            Err(Part::Board.refuse_at(Row::Site, 9_999_999_999_999))
         );
         assert_eq!(rt;
             (list.drain(0), list.links(0, 2), list.next(0, 0)),
@@ -186,8 +191,14 @@ mod boards {
     fn the_list_is_full(rt: HostRuntime) -> Result<(), Fail> {
         let mut list = LinkList::new(1)?;
         fill(&mut list)?;
-        assert_eq!(rt; told(list.add(0, End::Drain, 1)), Err((16, 0, Part::Board)));
-        assert_eq!(rt; told(list.add(1, End::Drain, 1)), Err((3, 1, Part::Board)));
+        assert_eq!(rt;
+            told(list.add(0, End::Drain, 1)),
+            Err(Part::Board.refuse(Row::ListFull))
+        );
+        assert_eq!(rt;
+            told(list.add(1, End::Drain, 1)),
+            Err(Part::Board.refuse_at(Row::Site, 1))
+        );
         assert_eq!(rt; list.drain(0), 4096);
         Ok(())
     }
@@ -221,7 +232,7 @@ mod layers {
     use layer::earth::Earth;
     use layer::merge::Merge;
     use pile::worked::{ends_merged, middle_earthed};
-    use refusal::{Part, Refusal};
+    use refusal::{Part, Refusal, Row};
     use std::test::Fail;
 
     #[test]
@@ -275,13 +286,22 @@ mod layers {
     #[test]
     fn earth_refuses(rt: HostRuntime) -> Result<(), Fail> {
         let mut only = Earth::idle(Grid::new(1, 1)?);
-        assert_eq!(rt; told(only.earth(5)), Err((3, 5, Part::Earth)));
-        assert_eq!(rt; told(only.earth(0)), Err((19, 0, Part::Earth)));
+        assert_eq!(rt;
+            told(only.earth(5)),
+            Err(Part::Earth.refuse_at(Row::Site, 5))
+        );
+        assert_eq!(rt; told(only.earth(0)), Err(Part::Earth.refuse(Row::LayerSet)));
         assert_eq!(rt; (only.count(), only.drain(0)), (1, 4));
         let mut earth = Earth::idle(Grid::new(1, 2)?);
         assert_eq!(rt; told(earth.earth(0)), Ok(()));
-        assert_eq!(rt; told(earth.earth(1)), Err((19, 0, Part::Earth)));
-        assert_eq!(rt; told(earth.earth(2)), Err((3, 2, Part::Earth)));
+        assert_eq!(rt;
+            told(earth.earth(1)),
+            Err(Part::Earth.refuse(Row::LayerSet))
+        );
+        assert_eq!(rt;
+            told(earth.earth(2)),
+            Err(Part::Earth.refuse_at(Row::Site, 2))
+        );
         assert_eq!(rt; (earth.count(), earth.drain(0)), (1, 4));
         Ok(())
     }
@@ -289,11 +309,23 @@ mod layers {
     #[test]
     fn merge_refuses(rt: HostRuntime) -> Result<(), Fail> {
         let mut merge = Merge::idle(Grid::new(1, 2)?);
-        assert_eq!(rt; told(merge.merge(5, 0)), Err((3, 5, Part::Merge)));
-        assert_eq!(rt; told(merge.merge(0, 6)), Err((3, 6, Part::Merge)));
-        assert_eq!(rt; told(merge.merge(1, 1)), Err((3, 1, Part::Merge)));
+        assert_eq!(rt;
+            told(merge.merge(5, 0)),
+            Err(Part::Merge.refuse_at(Row::Site, 5))
+        );
+        assert_eq!(rt;
+            told(merge.merge(0, 6)),
+            Err(Part::Merge.refuse_at(Row::Site, 6))
+        );
+        assert_eq!(rt;
+            told(merge.merge(1, 1)),
+            Err(Part::Merge.refuse_at(Row::Site, 1))
+        );
         assert_eq!(rt; told(merge.merge(1, 0)), Ok(()));
-        assert_eq!(rt; told(merge.merge(0, 1)), Err((19, 0, Part::Merge)));
+        assert_eq!(rt;
+            told(merge.merge(0, 1)),
+            Err(Part::Merge.refuse(Row::LayerSet))
+        );
         assert_eq!(rt;
             (merge.count(), merge.drain(0), merge.next(0, 0)),
             (1, 6, None)
@@ -304,15 +336,27 @@ mod layers {
     #[test]
     fn cut_refuses(rt: HostRuntime) -> Result<(), Fail> {
         let mut cut = Cut::idle(Grid::new(1, 2)?);
-        assert_eq!(rt; told(cut.cut(0, End::Site(1), 0)), Err((2, 0, Part::Cut)));
-        assert_eq!(rt; told(cut.cut(9, End::Drain, 1)), Err((3, 9, Part::Cut)));
-        assert_eq!(rt; told(cut.cut(0, End::Site(0), 1)), Err((3, 0, Part::Cut)));
+        assert_eq!(rt;
+            told(cut.cut(0, End::Site(1), 0)),
+            Err(Part::Cut.refuse(Row::Limit))
+        );
+        assert_eq!(rt;
+            told(cut.cut(9, End::Drain, 1)),
+            Err(Part::Cut.refuse_at(Row::Site, 9))
+        );
+        assert_eq!(rt;
+            told(cut.cut(0, End::Site(0), 1)),
+            Err(Part::Cut.refuse_at(Row::Site, 0))
+        );
         assert_eq!(rt;
             told(cut.cut(0, End::Site(1), u64::MAX)),
-            Err((18, 0, Part::Cut))
+            Err(Part::Cut.refuse(Row::FewLinks))
         );
         assert_eq!(rt; told(cut.cut(1, End::Drain, 2)), Ok(()));
-        assert_eq!(rt; told(cut.cut(1, End::Drain, 2)), Err((18, 0, Part::Cut)));
+        assert_eq!(rt;
+            told(cut.cut(1, End::Drain, 2)),
+            Err(Part::Cut.refuse(Row::FewLinks))
+        );
         assert_eq!(rt; (cut.drain(1), cut.links(0, 1)), (1, 1));
         Ok(())
     }
@@ -328,9 +372,15 @@ mod layers {
     fn the_cut_is_full(rt: HostRuntime) -> Result<(), Fail> {
         let mut cut = Cut::idle(Grid::new(1, 64)?);
         fill(&mut cut)?;
-        assert_eq!(rt; told(cut.cut(32, End::Drain, 1)), Err((17, 0, Part::Cut)));
+        assert_eq!(rt;
+            told(cut.cut(32, End::Drain, 1)),
+            Err(Part::Cut.refuse(Row::CutFull))
+        );
         assert_eq!(rt; told(cut.cut(5, End::Drain, 1)), Ok(()));
-        assert_eq!(rt; told(cut.cut(5, End::Drain, 1)), Err((18, 0, Part::Cut)));
+        assert_eq!(rt;
+            told(cut.cut(5, End::Drain, 1)),
+            Err(Part::Cut.refuse(Row::FewLinks))
+        );
         assert_eq!(rt; (cut.drain(5), cut.drain(4), cut.drain(32)), (0, 1, 2));
         Ok(())
     }

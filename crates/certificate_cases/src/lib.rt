@@ -8,17 +8,12 @@ mod verdicts {
     use board::{Board, End};
     use board_cases::told;
     use certificate::certify;
-    use refusal::Part;
+    use refusal::{Part, Refusal, Row};
     use ring::Ring;
     use std::test::Fail;
 
     // The verdict over work memory that read anything before.
-    fn on<B: Board>(
-        board: &B,
-        start: &[u64],
-        counts: &[u64],
-        end: &[u64],
-    ) -> Result<(), (u8, u64, Part)> {
+    fn on<B: Board>(board: &B, start: &[u64], counts: &[u64], end: &[u64]) -> Result<(), Refusal> {
         let mut waiting = [7; 4];
         let mut bytes = [1; 4];
         told(certify(board, start, counts, end, &mut waiting, &mut bytes))
@@ -31,11 +26,11 @@ mod verdicts {
         assert_eq!(rt; on(&pair, &[3, 3], &[0, 0], &[3, 3]), Ok(()));
         assert_eq!(rt;
             on(&pair, &[4, 3], &[1, 0], &[0, 4]),
-            Err((14, 1, Part::Certificate))
+            Err(Part::Certificate.refuse_at(Row::EndFires, 1))
         );
         assert_eq!(rt;
             on(&pair, &[3, 3], &[1, 1], &[0, 0]),
-            Err((15, 0, Part::Certificate))
+            Err(Part::Certificate.refuse_at(Row::TakenBack, 0))
         );
         Ok(())
     }
@@ -45,15 +40,15 @@ mod verdicts {
         let row = Grid::new(1, 4)?;
         assert_eq!(rt;
             on(&row, &[0, 0, 3, 3], &[0, 0, 1, 1], &[0, 1, 0, 0]),
-            Err((15, 2, Part::Certificate))
+            Err(Part::Certificate.refuse_at(Row::TakenBack, 2))
         );
         assert_eq!(rt;
             on(&row, &[2, 2, 2, 2], &[1, 1, 1, 1], &[0, 0, 0, 0]),
-            Err((13, 0, Part::Certificate))
+            Err(Part::Certificate.refuse_at(Row::NotFollowing, 0))
         );
         assert_eq!(rt;
             on(&row, &[3, 2, 2, 3], &[1, 1, 1, 1], &[0, 0, 0, 0]),
-            Err((15, 0, Part::Certificate))
+            Err(Part::Certificate.refuse_at(Row::TakenBack, 0))
         );
         // 2 leaves the set, then 1, then 0
         assert_eq!(rt;
@@ -68,21 +63,21 @@ mod verdicts {
         let pair = Grid::new(1, 2)?;
         assert_eq!(rt;
             on(&pair, &[4, 3], &[1, 1], &[1, 1]),
-            Err((13, 1, Part::Certificate))
+            Err(Part::Certificate.refuse_at(Row::NotFollowing, 1))
         );
         assert_eq!(rt;
             on(&pair, &[4, 3], &[1, 1], &[0, 1]),
-            Err((13, 0, Part::Certificate))
+            Err(Part::Certificate.refuse_at(Row::NotFollowing, 0))
         );
         // the formula gives 1 and −19
         assert_eq!(rt;
             on(&pair, &[0, 0], &[1, 5], &[1, 0]),
-            Err((13, 1, Part::Certificate))
+            Err(Part::Certificate.refuse_at(Row::NotFollowing, 1))
         );
         // before an end that can fire
         assert_eq!(rt;
             on(&pair, &[4, 3], &[0, 0], &[4, 4]),
-            Err((13, 1, Part::Certificate))
+            Err(Part::Certificate.refuse_at(Row::NotFollowing, 1))
         );
         Ok(())
     }
@@ -92,23 +87,23 @@ mod verdicts {
         let pair = Grid::new(1, 2)?;
         assert_eq!(rt;
             on(&pair, &[1_000_000, 0], &[0, 0], &[1_000_000, 0]),
-            Err((14, 0, Part::Certificate))
+            Err(Part::Certificate.refuse_at(Row::EndFires, 0))
         );
         assert_eq!(rt;
             on(&pair, &[0, 0], &[1_000_000_000_000, 0], &[0, 0]),
-            Err((13, 0, Part::Certificate))
+            Err(Part::Certificate.refuse_at(Row::NotFollowing, 0))
         );
         assert_eq!(rt;
             on(&pair, &[0, 1_000_001], &[0, 0], &[0, 0]),
-            Err((2, 0, Part::Certificate))
+            Err(Part::Certificate.refuse(Row::Limit))
         );
         assert_eq!(rt;
             on(&pair, &[0, 0], &[0, 1_000_000_000_001], &[0, 0]),
-            Err((2, 0, Part::Certificate))
+            Err(Part::Certificate.refuse(Row::Limit))
         );
         assert_eq!(rt;
             on(&pair, &[0, 0], &[0, 0], &[0, 1_000_001]),
-            Err((2, 0, Part::Certificate))
+            Err(Part::Certificate.refuse(Row::Limit))
         );
         Ok(())
     }
@@ -118,28 +113,28 @@ mod verdicts {
         let pair = Grid::new(1, 2)?;
         assert_eq!(rt;
             on(&pair, &[4], &[1, 1], &[1, 0]),
-            Err((1, 0, Part::Certificate))
+            Err(Part::Certificate.refuse(Row::Memory))
         );
         assert_eq!(rt;
             on(&pair, &[4, 3, 0], &[1, 1], &[1, 0]),
-            Err((1, 0, Part::Certificate))
+            Err(Part::Certificate.refuse(Row::Memory))
         );
         assert_eq!(rt;
             on(&pair, &[4, 3], &[1], &[1, 0]),
-            Err((1, 0, Part::Certificate))
+            Err(Part::Certificate.refuse(Row::Memory))
         );
         assert_eq!(rt;
             on(&pair, &[4, 3], &[1, 1, 0], &[1, 0]),
-            Err((1, 0, Part::Certificate))
+            Err(Part::Certificate.refuse(Row::Memory))
         );
         assert_eq!(rt;
             on(&pair, &[4, 3], &[1, 1], &[1]),
-            Err((1, 0, Part::Certificate))
+            Err(Part::Certificate.refuse(Row::Memory))
         );
         // before a limit
         assert_eq!(rt;
             on(&pair, &[4, 3], &[1, 1], &[1, 0, 1_000_001]),
-            Err((1, 0, Part::Certificate))
+            Err(Part::Certificate.refuse(Row::Memory))
         );
         Ok(())
     }
@@ -153,11 +148,11 @@ mod verdicts {
         let mut bytes = [0; 2];
         assert_eq!(rt;
             told(certify(&pair, &[4, 3], &[1, 1], &[1, 0], &mut one, &mut bytes)),
-            Err((1, 0, Part::Certificate))
+            Err(Part::Certificate.refuse(Row::Memory))
         );
         assert_eq!(rt;
             told(certify(&pair, &[4, 3], &[1, 1], &[1, 0], &mut two, &mut byte)),
-            Err((1, 0, Part::Certificate))
+            Err(Part::Certificate.refuse(Row::Memory))
         );
         assert_eq!(rt;
             told(certify(&pair, &[4, 3], &[1, 1], &[1, 0], &mut two, &mut bytes)),
@@ -173,16 +168,16 @@ mod verdicts {
         list.add(1, End::Site(2), 2)?;
         assert_eq!(rt;
             on(&list, &[0, 0, 0, 0], &[0, 0, 0, 0], &[0, 0, 0, 0]),
-            Err((4, 1, Part::Certificate))
+            Err(Part::Certificate.refuse_at(Row::NoDrain, 1))
         );
         // before an end that does not follow, behind a limit
         assert_eq!(rt;
             on(&list, &[0, 0, 0, 0], &[0, 0, 0, 0], &[1, 0, 0, 0]),
-            Err((4, 1, Part::Certificate))
+            Err(Part::Certificate.refuse_at(Row::NoDrain, 1))
         );
         assert_eq!(rt;
             on(&list, &[0, 0, 0, 1_000_001], &[0, 0, 0, 0], &[0, 0, 0, 0]),
-            Err((2, 0, Part::Certificate))
+            Err(Part::Certificate.refuse(Row::Limit))
         );
         Ok(())
     }
@@ -193,7 +188,7 @@ mod verdicts {
         assert_eq!(rt; on(&ring, &[0, 2, 1], &[0, 1, 1], &[2, 1, 0]), Ok(()));
         assert_eq!(rt;
             on(&ring, &[2, 1, 1], &[1, 1, 1], &[1, 1, 1]),
-            Err((15, 0, Part::Certificate))
+            Err(Part::Certificate.refuse_at(Row::TakenBack, 0))
         );
         Ok(())
     }

@@ -2,18 +2,14 @@
 #![tactic(auto)]
 
 ghost use Rattle.std.specs.Prelude.{◌≡◌, ℕ, Ok, Err};
-ghost use Rattle.refusal.specs.Table.{number};
 
 use refusal::Refusal;
 
-// What a call was refused by: row and place.
-pub fn told<T: Drop>(r: Result<T, Refusal>) -> Result<(), (u8, u64)>
-    ensures { elim r [ Ok _ ↦ result ≡ Ok tt | Err e ↦ result ≡ Err (number e.row, e.place) ] }
+// What a call was refused by, as the cases of boards say it.
+pub fn told<T: Drop>(r: Result<T, Refusal>) -> Result<(), Refusal>
+    ensures { elim r [ Ok _ ↦ result ≡ Ok tt | Err e ↦ result ≡ Err e ] }
 {
-    match board_cases::told(r) {
-        Ok(()) => Ok(()),
-        Err((row, place, _)) => Err((row, place)),
-    }
+    board_cases::told(r)
 }
 
 #[cfg(test)]
@@ -45,7 +41,7 @@ mod settlings {
     use super::boards::{islands, pier};
     use super::told;
     use board::grid::Grid;
-    use refusal::{Part, Refusal};
+    use refusal::{Part, Refusal, Row};
     use settling::reach::reach;
     use settling::settle::settle;
     use std::test::Fail;
@@ -55,7 +51,7 @@ mod settlings {
         waiting: &mut [usize],
         marks: &mut [u8],
         budget: u64,
-    ) -> Result<Result<(), (u8, u64)>, Refusal> {
+    ) -> Result<Result<(), Refusal>, Refusal> {
         let grid = Grid::new(1, 2)?;
         Ok(told(settle(&grid, heights, waiting, marks, budget, Part::Bench)))
     }
@@ -64,30 +60,33 @@ mod settlings {
     fn settle_refuses(rt: HostRuntime) -> Result<(), Fail> {
         assert_eq!(rt;
             lent(&mut [0; 1], &mut [0; 2], &mut [0; 2], 1)?,
-            Err((1, 0))
+            Err(Part::Bench.refuse(Row::Memory))
         );
         assert_eq!(rt;
             lent(&mut [0; 3], &mut [0; 2], &mut [0; 2], 1)?,
-            Err((1, 0))
+            Err(Part::Bench.refuse(Row::Memory))
         );
         assert_eq!(rt;
             lent(&mut [0; 2], &mut [0; 1], &mut [0; 2], 1)?,
-            Err((1, 0))
+            Err(Part::Bench.refuse(Row::Memory))
         );
         assert_eq!(rt;
             lent(&mut [0; 2], &mut [0; 2], &mut [0; 1], 0)?,
-            Err((1, 0))
+            Err(Part::Bench.refuse(Row::Memory))
         );
         assert_eq!(rt;
             lent(&mut [0; 2], &mut [0; 2], &mut [0; 2], 0)?,
-            Err((2, 0))
+            Err(Part::Bench.refuse(Row::Limit))
         );
         assert_eq!(rt;
             lent(&mut [0; 2], &mut [0; 3], &mut [0; 3], 1_000_000_001)?,
-            Err((2, 0))
+            Err(Part::Bench.refuse(Row::Limit))
         );
         let mut heavy = [999_999, 2];
-        assert_eq!(rt; lent(&mut heavy, &mut [0; 2], &mut [0; 2], 1)?, Err((2, 0)));
+        assert_eq!(rt;
+            lent(&mut heavy, &mut [0; 2], &mut [0; 2], 1)?,
+            Err(Part::Bench.refuse(Row::Limit))
+        );
         assert_eq!(rt; heavy, [999_999, 2]);
         Ok(())
     }
@@ -134,11 +133,11 @@ mod settlings {
         );
         assert_eq!(rt;
             told(reach(&list, &mut [0usize; 4], &mut [0; 5], Part::Bench)),
-            Err((1, 0))
+            Err(Part::Bench.refuse(Row::Memory))
         );
         assert_eq!(rt;
             told(reach(&list, &mut [0usize; 5], &mut [0; 4], Part::Bench)),
-            Err((1, 0))
+            Err(Part::Bench.refuse(Row::Memory))
         );
         Ok(())
     }
@@ -150,7 +149,7 @@ mod burnings {
     use super::told;
     use board::grid::Grid;
     use group::burning::{Burnt, burn};
-    use refusal::Refusal;
+    use refusal::{Part, Refusal, Row};
     use std::test::Fail;
 
     const FREE: Burnt = Burnt { site: 0, round: 0 };
@@ -160,7 +159,7 @@ mod burnings {
         rounds: &mut [u32],
         waiting: &mut [Burnt],
         bytes: &mut [u8],
-    ) -> Result<Result<(), (u8, u64)>, Refusal> {
+    ) -> Result<Result<(), Refusal>, Refusal> {
         let grid = Grid::new(1, 2)?;
         Ok(told(burn(&grid, heights, rounds, waiting, bytes)))
     }
@@ -170,23 +169,23 @@ mod burnings {
         let mut rounds = [9, 9];
         assert_eq!(rt;
             lent(&[0; 3], &mut rounds, &mut [FREE; 2], &mut [0; 2])?,
-            Err((1, 0))
+            Err(Part::Group.refuse(Row::Memory))
         );
         assert_eq!(rt;
             lent(&[0; 2], &mut [0; 1], &mut [FREE; 2], &mut [0; 2])?,
-            Err((1, 0))
+            Err(Part::Group.refuse(Row::Memory))
         );
         assert_eq!(rt;
             lent(&[0; 2], &mut rounds, &mut [FREE; 1], &mut [0; 2])?,
-            Err((1, 0))
+            Err(Part::Group.refuse(Row::Memory))
         );
         assert_eq!(rt;
             lent(&[0; 2], &mut rounds, &mut [FREE; 2], &mut [0; 1])?,
-            Err((1, 0))
+            Err(Part::Group.refuse(Row::Memory))
         );
         assert_eq!(rt;
             lent(&[3, u64::MAX], &mut rounds, &mut [FREE; 2], &mut [0; 2])?,
-            Err((9, 1))
+            Err(Part::Group.refuse_at(Row::NotStill, 1))
         );
         assert_eq!(rt; rounds, [9, 9]);
         assert_eq!(rt;
@@ -197,7 +196,7 @@ mod burnings {
                 &mut [FREE; 5],
                 &mut [0; 5],
             )),
-            Err((4, 1))
+            Err(Part::Group.refuse_at(Row::NoDrain, 1))
         );
         Ok(())
     }
@@ -221,7 +220,7 @@ mod adding {
     use super::told;
     use board::grid::Grid;
     use group::sums::sum;
-    use refusal::{Part, Refusal};
+    use refusal::{Part, Refusal, Row};
     use std::test::Fail;
 
     fn lent(
@@ -230,7 +229,7 @@ mod adding {
         answer: &mut [u64],
         waiting: &mut [usize],
         bytes: &mut [u8],
-    ) -> Result<Result<(), (u8, u64)>, Refusal> {
+    ) -> Result<Result<(), Refusal>, Refusal> {
         let grid = Grid::new(1, 2)?;
         Ok(told(sum(&grid, a, b, answer, waiting, bytes, 9)))
     }
@@ -240,7 +239,7 @@ mod adding {
         a: [u64; 2],
         b: [u64; 2],
         budget: u64,
-    ) -> Result<(Result<(), (u8, u64)>, [u64; 2]), Refusal> {
+    ) -> Result<(Result<(), Refusal>, [u64; 2]), Refusal> {
         let grid = Grid::new(1, 2)?;
         let mut answer = [7, 7];
         let r = told(sum(&grid, &a, &b, &mut answer, &mut [0; 2], &mut [0; 2], budget));
@@ -251,23 +250,23 @@ mod adding {
     fn memory_that_does_not_fit(rt: HostRuntime) -> Result<(), Fail> {
         assert_eq!(rt;
             lent(&[0; 1], &[0; 2], &mut [0; 2], &mut [0; 2], &mut [0; 2])?,
-            Err((1, 0))
+            Err(Part::Group.refuse(Row::Memory))
         );
         assert_eq!(rt;
             lent(&[0; 2], &[0; 3], &mut [0; 2], &mut [0; 2], &mut [0; 2])?,
-            Err((1, 0))
+            Err(Part::Group.refuse(Row::Memory))
         );
         assert_eq!(rt;
             lent(&[0; 2], &[0; 2], &mut [0; 3], &mut [0; 2], &mut [0; 2])?,
-            Err((1, 0))
+            Err(Part::Group.refuse(Row::Memory))
         );
         assert_eq!(rt;
             lent(&[0; 2], &[0; 2], &mut [0; 2], &mut [0; 1], &mut [0; 2])?,
-            Err((1, 0))
+            Err(Part::Group.refuse(Row::Memory))
         );
         assert_eq!(rt;
             lent(&[0; 2], &[0; 2], &mut [0; 2], &mut [0; 2], &mut [0; 1])?,
-            Err((1, 0))
+            Err(Part::Group.refuse(Row::Memory))
         );
         assert_eq!(rt;
             lent(&[0; 2], &[0; 2], &mut [0; 2], &mut [0; 3], &mut [0; 3])?,
@@ -278,11 +277,26 @@ mod adding {
 
     #[test]
     fn refused_in_the_order_of_rows(rt: HostRuntime) -> Result<(), Fail> {
-        assert_eq!(rt; pair([4, 4], [4, 4], 0)?, (Err((2, 0)), [7, 7]));
-        assert_eq!(rt; pair([0, 0], [0, 0], 1_000_000_001)?, (Err((2, 0)), [7, 7]));
-        assert_eq!(rt; pair([0, u64::MAX], [4, 0], 9)?, (Err((9, 1)), [7, 7]));
-        assert_eq!(rt; pair([3, 3], [0, 4], 9)?, (Err((9, 1)), [7, 7]));
-        assert_eq!(rt; pair([4, 0], [0, 4], 9)?, (Err((9, 0)), [7, 7]));
+        assert_eq!(rt;
+            pair([4, 4], [4, 4], 0)?,
+            (Err(Part::Group.refuse(Row::Limit)), [7, 7])
+        );
+        assert_eq!(rt;
+            pair([0, 0], [0, 0], 1_000_000_001)?,
+            (Err(Part::Group.refuse(Row::Limit)), [7, 7])
+        );
+        assert_eq!(rt;
+            pair([0, u64::MAX], [4, 0], 9)?,
+            (Err(Part::Group.refuse_at(Row::NotStill, 1)), [7, 7])
+        );
+        assert_eq!(rt;
+            pair([3, 3], [0, 4], 9)?,
+            (Err(Part::Group.refuse_at(Row::NotStill, 1)), [7, 7])
+        );
+        assert_eq!(rt;
+            pair([4, 0], [0, 4], 9)?,
+            (Err(Part::Group.refuse_at(Row::NotStill, 0)), [7, 7])
+        );
         let mut answer = [7; 5];
         assert_eq!(rt;
             told(sum(
@@ -294,7 +308,7 @@ mod adding {
                 &mut [0; 5],
                 9,
             )),
-            Err((4, 1))
+            Err(Part::Group.refuse_at(Row::NoDrain, 1))
         );
         assert_eq!(rt; answer, [7; 5]);
         Ok(())
@@ -305,7 +319,10 @@ mod adding {
         assert_eq!(rt; pair([1, 2], [1, 1], 1)?, (Ok(()), [2, 3]));
         assert_eq!(rt; pair([3, 3], [1, 0], 2)?, (Ok(()), [1, 0]));
         assert_eq!(rt; pair([3, 3], [1, 0], 1_000_000_000)?, (Ok(()), [1, 0]));
-        assert_eq!(rt; pair([3, 3], [1, 0], 1)?, (Err((21, 0)), [0, 0]));
+        assert_eq!(rt;
+            pair([3, 3], [1, 0], 1)?,
+            (Err(Part::Group.refuse(Row::Budget)), [0, 0])
+        );
         Ok(())
     }
 
@@ -336,7 +353,7 @@ mod adding {
             assert!(rt; false);
             return Ok(());
         };
-        assert_eq!(rt; (u8::from(e.row), e.part), (21, Part::Group));
+        assert_eq!(rt; e, Part::Group.refuse(Row::Budget));
         assert_eq!(rt; answer, [0, 0]);
         Ok(())
     }
@@ -349,7 +366,7 @@ mod identities {
     use board::Board;
     use board::grid::Grid;
     use group::sums::identity;
-    use refusal::Refusal;
+    use refusal::{Part, Refusal, Row};
     use std::test::Fail;
 
     fn lent(
@@ -357,7 +374,7 @@ mod identities {
         waiting: &mut [usize],
         bytes: &mut [u8],
         budget: u64,
-    ) -> Result<Result<(), (u8, u64)>, Refusal> {
+    ) -> Result<Result<(), Refusal>, Refusal> {
         let grid = Grid::new(2, 2)?;
         Ok(told(identity(&grid, answer, waiting, bytes, budget)))
     }
@@ -367,33 +384,33 @@ mod identities {
         let mut answer = [7; 4];
         assert_eq!(rt;
             lent(&mut [0; 3], &mut [0; 4], &mut [0; 4], 8)?,
-            Err((1, 0))
+            Err(Part::Group.refuse(Row::Memory))
         );
         assert_eq!(rt;
             lent(&mut [0; 5], &mut [0; 4], &mut [0; 4], 8)?,
-            Err((1, 0))
+            Err(Part::Group.refuse(Row::Memory))
         );
         assert_eq!(rt;
             lent(&mut answer, &mut [0; 3], &mut [0; 4], 8)?,
-            Err((1, 0))
+            Err(Part::Group.refuse(Row::Memory))
         );
         assert_eq!(rt;
             lent(&mut answer, &mut [0; 4], &mut [0; 3], 0)?,
-            Err((1, 0))
+            Err(Part::Group.refuse(Row::Memory))
         );
         assert_eq!(rt;
             lent(&mut answer, &mut [0; 4], &mut [0; 4], 0)?,
-            Err((2, 0))
+            Err(Part::Group.refuse(Row::Limit))
         );
         assert_eq!(rt;
             lent(&mut answer, &mut [0; 4], &mut [0; 4], 1_000_000_001)?,
-            Err((2, 0))
+            Err(Part::Group.refuse(Row::Limit))
         );
         assert_eq!(rt; answer, [7; 4]);
         let mut five = [7; 5];
         assert_eq!(rt;
             told(identity(&islands()?, &mut five, &mut [0; 5], &mut [0; 5], 8)),
-            Err((4, 1))
+            Err(Part::Group.refuse_at(Row::NoDrain, 1))
         );
         assert_eq!(rt; five, [7; 5]);
         Ok(())
@@ -406,13 +423,13 @@ mod identities {
         assert_eq!(rt; answer, [2; 4]);
         assert_eq!(rt;
             lent(&mut answer, &mut [0; 4], &mut [0; 4], 7)?,
-            Err((21, 0))
+            Err(Part::Group.refuse(Row::Budget))
         );
         assert_eq!(rt; answer, [0; 4]);
         let mut other = [7; 4];
         assert_eq!(rt;
             lent(&mut other, &mut [0; 4], &mut [0; 4], 1)?,
-            Err((21, 0))
+            Err(Part::Group.refuse(Row::Budget))
         );
         assert_eq!(rt; other, [0; 4]);
         Ok(())

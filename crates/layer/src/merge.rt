@@ -84,6 +84,7 @@ fn least(x: Option<usize>, y: Option<usize>) -> Option<usize>
     x.into_iter().chain(y).min()
 }
 
+// The board below stays a parameter: a pair is kept, the board only asked.
 impl Pair {
     // The least site from `j` on, other than `a`, that `p` is linked to once the pair is merged.
     fn next<B: Board>(self, below: &B, p: usize, j: usize) -> Option<usize>

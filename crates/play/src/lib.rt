@@ -24,7 +24,7 @@ pub enum Call {
 }
 
 // What a call answers: the number of the avalanche opened or put by, the site fired, a run, the firings of a wave, a
-// record; or why it was refused.
+// record; or why it was refused. (No Result: an answer is the line that a report prints for a call, and a refusal is one.)
 #[derive(Clone, Copy)]
 pub enum Answer {
     Opened(u64),

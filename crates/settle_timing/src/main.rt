@@ -39,7 +39,8 @@ impl Table {
         let mut sum: u64 = 0;
         for _ in 0..many {
             seed = seed.wrapping_mul(1_664_525).wrapping_add(1_013_904_223);
-            let v = (seed / 1_048_576) as usize;
+            // by as: a `u32` has no `From` into `usize`
+        let v = (seed / 1_048_576) as usize;
             if let Some(h) = self.heights.get_mut(v) {
                 *h = h.wrapping_add(1);
             }

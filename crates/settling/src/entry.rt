@@ -4,7 +4,7 @@ ghost use Rattle.std.specs.Prelude.{◌≡◌, ℕ};
 pub trait Entry: Copy {
     ghost site: { Self → ℕ };
 
-    // The entry of a site found by a search.
+    // The entry of a site found by a search. (No `From`: a law ties it to the site, and a site does not say a round.)
     fn of_site(v: usize) -> Self
         ensures { site result ≡ v };
 

@@ -81,6 +81,7 @@ pub fn check_form(sheet: &[u8]) -> Result<usize, LineRefusal>
     ensures { Checked sheet.now result }
 {
     let mut count = 0;
+    // counted in a `for`, since it ends with the first refusal
     for line in Lines::of(sheet)? {
         line?;
         count += 1;

@@ -18,8 +18,8 @@ pub(crate) struct Reader<'a> {
     ghost along: { column ≤ at + 3 },
 }
 
-// The lines that a sheet's reader has before it, behind the last letter; none once one was refused. (A flag: nothing goes
-// with it.)
+// The lines that a sheet's reader has before it, behind the last letter; none once one was refused. (A flag: an
+// Option of the rest would be taken out and put back at each line.)
 #[derive(Drop)]
 pub(crate) struct Lines<'a> {
     pub(crate) reader: Reader<'a>,

@@ -38,6 +38,7 @@ impl Reader<'_> {
         match self.word()? {
             Word::Number(part, place) => {
                 let n = decimal(part).ok_or(place.column)?;
+                // by as: a `u64` has no `From` into `usize`, and 13 digits fit
                 Ok(End::Site(n as usize))
             }
             Word::Drain([_], _) => Ok(End::Drain),
