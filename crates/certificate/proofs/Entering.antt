@@ -1,54 +1,53 @@
 -- How the sites that have fired come into the set.
-use Rattle.std.proofs.Common.{◌≡◌, ℕ, ◌+◌, ◌<◌, ◌≤◌, List, [], length, set, ap, ◌∙◌, inl, inr, arith, length-set}
+use Rattle.std.proofs.Common.{◌≡◌, ℕ, ◌+◌, ◌<◌, ◌≤◌, List, length, ap, ◌∙◌, subst, inl, inr, arith}
 use Rattle.std.proofs.lemmas.Bool.{cases_eq}
 use Rattle.settling.specs.Searches.{mark}
 use Rattle.settling.specs.Waits.{Turned}
-use Rattle.settling.proofs.Queues.{mark_here, mark_there, queued_none, queued_more}
 use Rattle.settling.proofs.Waited.{turned_others}
 use Rattle.certificate.specs.Sets.{Awaits}
 
--- of n sites those that have fired are marked 1 and wait, and no other is marked
-pub record Entered (n : ℕ) (w : ℕ → ℕ) (es fs : List ℕ) : Type 0 where
-  pub queued : Awaits n es fs
+-- of m sites those below n that have fired are marked 1 and wait, and no other is marked
+pub record Entered (m n : ℕ) (w : ℕ → ℕ) (es fs : List ℕ) : Type 0 where
+  pub queued : Awaits m es fs
   pub in_set : (u : ℕ) → u < n → 1 ≤ w u → mark fs u ≡ 1
   pub off_set : (u : ℕ) → u < n → w u ≡ 0 → mark fs u ≡ 0
+  pub rest : (u : ℕ) → n ≤ u → mark fs u ≡ 0
 
-pub entered_none : (w : ℕ → ℕ) (es fs : List ℕ) → es ≡ [] → Entered 0 w es fs
-entered_none w es fs e = record {
-  queued = queued_none (λ v. v) 0 es fs e (λ u l. absurd (omega arith));
+pub entered_none : (m : ℕ) (w : ℕ → ℕ) (es fs : List ℕ) → length fs ≡ m → Awaits (length fs) es fs → ((u : ℕ) → mark fs u ≡ 0) → Entered m 0 w es fs
+entered_none m w es fs size q nil = record {
+  queued = subst (λ k. Awaits k es fs) size q;
   in_set = λ u l. absurd (omega arith);
   off_set = λ u l. absurd (omega arith);
+  rest = λ u l. nil u;
 }
 
--- one site more, not in the set yet
-entered_queued : (n : ℕ) (w : ℕ → ℕ) (es fs : List ℕ) → n < length fs → Entered n w es fs → Awaits (n + 1) es (set fs n 0)
-entered_queued n w es fs long e = queued_more (λ v. v) n 0 es fs long (λ p. omega arith) (omega arith) e.queued
-
--- it has not fired
-pub entered_skip : (n : ℕ) (w : ℕ → ℕ) (es fs : List ℕ) → n < length fs → w n ≡ 0 → Entered n w es fs → Entered (n + 1) w es (set fs n 0)
-entered_skip n w es fs long nil e = record {
-  queued = entered_queued n w es fs long e;
+-- one site more that has not fired
+pub entered_skip : (m n : ℕ) (w : ℕ → ℕ) (es fs : List ℕ) → w n ≡ 0 → Entered m n w es fs → Entered m (n + 1) w es fs
+entered_skip m n w es fs nil e = record {
+  queued = e.queued;
   in_set = λ u l some. elim (cases_eq u n) [
     | inl same ↦ absurd (omega (arith, ap w same))
-    | inr apart ↦ mark_there fs n 0 u apart ∙ e.in_set u (omega arith) some
+    | inr apart ↦ e.in_set u (omega arith) some
   ];
   off_set = λ u l none. elim (cases_eq u n) [
-    | inl same ↦ mark_here fs n 0 u long same
-    | inr apart ↦ mark_there fs n 0 u apart ∙ e.off_set u (omega arith) none
+    | inl same ↦ e.rest u (omega arith)
+    | inr apart ↦ e.off_set u (omega arith) none
   ];
+  rest = λ u l. e.rest u (omega arith);
 }
 
--- it has, and was had wait
-pub entered_more : (n : ℕ) (w : ℕ → ℕ) (es fs es' fs' : List ℕ) → n < length fs → 0 < w n → Entered n w es fs → Turned (λ u. u ≡ n) 0 (set fs n 0) fs'
-    → (Awaits (n + 1) es (set fs n 0) → Awaits (n + 1) es' fs') → Entered (n + 1) w es' fs'
-entered_more n w es fs es' fs' long some e t keeps = record {
-  queued = keeps (entered_queued n w es fs long e);
+-- one that has, and was had wait
+pub entered_more : (m n : ℕ) (w : ℕ → ℕ) (es fs es' fs' : List ℕ) → n < length fs → 0 < w n → Entered m n w es fs → Turned (λ u. u ≡ n) 0 fs fs'
+    → length fs' ≡ m → Awaits (length fs') es' fs' → Entered m (n + 1) w es' fs'
+entered_more m n w es fs es' fs' long some e t size after = record {
+  queued = subst (λ k. Awaits k es' fs') size after;
   in_set = λ u l some'. elim (cases_eq u n) [
-    | inl same ↦ t.all u same (omega (arith, length-set fs n 0)) (mark_here fs n 0 u long same)
-    | inr apart ↦ turned_others (λ k. k ≡ n) 0 (set fs n 0) fs' t u apart ∙ mark_there fs n 0 u apart ∙ e.in_set u (omega arith) some'
+    | inl same ↦ t.all u same (omega arith) (e.rest u (omega arith))
+    | inr apart ↦ turned_others (λ k. k ≡ n) 0 fs fs' t u apart ∙ e.in_set u (omega arith) some'
   ];
   off_set = λ u l none. elim (cases_eq u n) [
     | inl same ↦ absurd (omega (arith, ap w same))
-    | inr apart ↦ turned_others (λ k. k ≡ n) 0 (set fs n 0) fs' t u apart ∙ mark_there fs n 0 u apart ∙ e.off_set u (omega arith) none
+    | inr apart ↦ turned_others (λ k. k ≡ n) 0 fs fs' t u apart ∙ e.off_set u (omega arith) none
   ];
+  rest = λ u l. turned_others (λ k. k ≡ n) 0 fs fs' t u (λ same. omega arith) ∙ e.rest u (omega arith);
 }

@@ -9,8 +9,8 @@ use Rattle.firing.proofs.Sums.{sum_jump}
 use Rattle.firing.proofs.Sets.{cond_le, into_le, into_same, into_most}
 use Rattle.firing.proofs.Stands.{plain_heights}
 use Rattle.settling.specs.Searches.{mark, occurs}
-use Rattle.settling.specs.Waits.{Turned}
-use Rattle.settling.proofs.Queues.{mark_here, mark_there, queued_pop, queued_set, queued_length, popped_on}
+use Rattle.settling.specs.Waits.{Turned, Rested}
+use Rattle.settling.proofs.Queues.{mark_here, mark_there, queued_pop, queued_length, popped_on}
 use Rattle.settling.proofs.Waited.{turned_not}
 use Rattle.certificate.specs.Sets.{marked, Awaits, Narrowing, LowestMarked, LowestBack}
 use Rattle.certificate.proofs.Entering.{Entered}
@@ -110,8 +110,14 @@ module _ {b : Shape} (ok : Sound b) {w h : ℕ → ℕ} {v : ℕ} {ws es fs : Li
   there_gone : (u : ℕ) → (u ≡ v → ⊥) → mark (set (set fs v 2) v 0) u ≡ mark fs u
   there_gone u apart = mark_there (set fs v 2) v 0 u apart ∙ mark_there fs v 2 u apart
 
-  look_gone : Awaits b.sites es (set (set fs v 2) v 0)
-  look_gone = queued_set (λ u. u) b.sites v 0 es (set fs v 2) (omega (arith, length-set fs v 2)) was.0 (λ e. omega (arith, here_seen)) (λ e. omega arith) (omega arith) look_popped
+  -- what the marks are once it leaves the set
+  pub look_gone : {fs' gs : List ℕ} → fs' ≡ set fs v 2 → Rested v 0 fs' gs → gs ≡ set (set fs v 2) v 0
+  look_gone {fs'} {gs} seen r =
+      let r' : Rested v 0 (set fs v 2) gs = subst (λ m. Rested v 0 m gs) seen r in
+      r'.here (omega (arith, was.0, length-set fs v 2)) (λ e. omega (arith, here_seen)) (inl refl)
+
+  pub look_size : {fs' gs : List ℕ} (fs'' : List ℕ) → fs' ≡ set fs v 2 → Rested v 0 fs' gs → length fs'' ≡ length gs → length fs'' ≡ length fs
+  look_size fs'' seen r same = same ∙ ap length (look_gone seen r) ∙ length-set (set fs v 2) v 0 ∙ length-set fs v 2
 
   -- a site that is looked at stays in the set for now
   same_seen : (u : ℕ) → marked (set fs v 2) u ≡ marked fs u
@@ -141,10 +147,7 @@ module _ {b : Shape} (ok : Sound b) {w h : ℕ → ℕ} {v : ℕ} {ws es fs : Li
       omega (arith, ap length popped, ap (λ k. k * (b.sites + 1)) same)
 
   -- v leaves, and its neighbours wait again
-  module _ {es'' fs'' : List ℕ} (keeps : Awaits b.sites es (set (set fs v 2) v 0) → Awaits b.sites es'' fs'') (t : Turned (λ u. 0 < b.m v u) 2 (set (set fs v 2) v 0) fs'') where
-    after : Awaits b.sites es'' fs''
-    after = keeps look_gone
-
+  module _ {es'' fs'' : List ℕ} (after : Awaits b.sites es'' fs'') (t : Turned (λ u. 0 < b.m v u) 2 (set (set fs v 2) v 0) fs'') where
     up : (u : ℕ) → 1 ≤ mark (set (set fs v 2) v 0) u → 1 ≤ mark fs'' u
     up u l = elim (t.only u) [ inl e ↦ omega arith | inr e ↦ omega arith ]
 
@@ -199,7 +202,7 @@ module _ {b : Shape} (ok : Sound b) {w h : ℕ → ℕ} {v : ℕ} {ws es fs : Li
         omega (arith, ap length popped, mul-le-mul_right (b.sites + 1) fewer, queued_length (λ u. u) b.sites es'' fs'' after)
 
 module _ (b : Shape) (w h : ℕ → ℕ) where
-  pub narrowing_begins : (es fs : List ℕ) → Entered b.sites w es fs → Narrowing b w h es fs
+  pub narrowing_begins : (es fs : List ℕ) → Entered b.sites b.sites w es fs → Narrowing b w h es fs
   narrowing_begins es fs e = record {
     queued = e.queued;
     fired = λ u l m. elim (cases_lt 0 (w u)) [ inl some ↦ some | inr none ↦ absurd (omega (arith, e.off_set u l (omega arith))) ];

@@ -1,16 +1,16 @@
 // The largest set that can be taken back: of the sites that have fired, one after another leaves that is as high as its
 // links into the set.
-ghost use Rattle.std.specs.Prelude.{◌≡◌, ◌≤◌, [], length};
-ghost use Rattle.waiting.specs.WaitingLists.{waits, room};
+ghost use Rattle.std.specs.Prelude.{◌≡◌, ℕ, ◌≤◌, length};
+ghost use Rattle.waiting.specs.WaitingLists.{waits};
 ghost use Rattle.firing.specs.Firing.{at};
 ghost use Rattle.firing.specs.TakingBack.{links_into, Largest};
+ghost use Rattle.settling.specs.Searches.{mark};
 ghost use Rattle.certificate.specs.Sets.{marked, Narrowing, LowestMarked, LowestBack};
 
 use crate::limits::Certificate;
 use board::Board;
 use board::neighbours::Neighbours;
-use settling::waits::{wait, wait_round};
-use waiting::WaitingList;
+use settling::waits::Queue;
 
 // The mark of a site that is not in the set. Marks are numbers, since they stand in bytes that the caller lends; 1, of
 // a site that waits to be looked at, is written by `wait`.
@@ -34,47 +34,42 @@ fn links_into<B: Board>(board: &B, bytes: &[u8], v: usize) -> u32
     sum
 }
 
-// The lowest of the first `n` sites that is in the set.
-fn lowest_marked(bytes: &[u8], n: usize) -> Option<usize>
-    requires { n ≤ length bytes.now }
-    ensures { LowestMarked n bytes.now result }
+// The lowest of the sites with these marks that is in the set.
+fn lowest_marked(marks: &[u8]) -> Option<usize>
+    ensures { LowestMarked (length marks.now) marks.now result }
 {
-    bytes[..n].iter().position(|byte| *byte != OUT)
+    marks.iter().position(|mark| *mark != OUT)
 }
 
 impl<'a, B: Board> Certificate<'a, B> {
     // Has each site that has fired be in the set and wait.
-    fn enter(&self, list: &mut WaitingList<usize>, bytes: &mut [u8])
-        requires bytes { (B.Board.shape self.now.board.now).sites ≤ length bytes.old }
-        requires room { (B.Board.shape self.now.board.now).sites ≤ room list.old }
-        requires empty { waits list.old ≡ [] }
-        ensures narrowing { Narrowing (B.Board.shape self.now.board.now) (at self.now.counts.now) (at self.now.end.now) (waits list.new) bytes.new }
-        ensures room { room list.new ≡ room list.old }
+    fn enter(&self, queue: &mut Queue<usize>)
+        requires size { length queue.old.marks.now ≡ (B.Board.shape self.now.board.now).sites }
+        requires out { (u : ℕ) → mark queue.old.marks.now u ≡ 0 }
+        ensures narrowing { Narrowing (B.Board.shape self.now.board.now) (at self.now.counts.now) (at self.now.end.now) (waits queue.new.list) queue.new.marks.now }
+        ensures size { length queue.new.marks.now ≡ length queue.old.marks.now }
     {
         for (v, count) in self.counts.iter().enumerate() {
-            bytes[v] = OUT;
             if *count > 0 {
-                wait(list, bytes, v, OUT);
+                queue.wait(v, OUT);
             }
         }
     }
 
     // Looks at what waits, until nothing does: a site that is not lower than its links into the set leaves it, and its
-    // neighbours are looked at again. List and bytes stay two parameters: of a struct of both with the fact `narrowing`
-    // the check asks for it (`invariant_of-self`) right after `pop`, where it does not hold.
-    fn narrow(&self, list: &mut WaitingList<usize>, bytes: &mut [u8])
-        requires bytes { (B.Board.shape self.now.board.now).sites ≤ length bytes.old }
-        requires room { (B.Board.shape self.now.board.now).sites ≤ room list.old }
-        requires narrowing { Narrowing (B.Board.shape self.now.board.now) (at self.now.counts.now) (at self.now.end.now) (waits list.old) bytes.old }
-        ensures { Largest (B.Board.shape self.now.board.now) (at self.now.counts.now) (at self.now.end.now) (marked bytes.new) }
+    // neighbours are looked at again.
+    fn narrow(&self, queue: &mut Queue<usize>)
+        requires size { length queue.old.marks.now ≡ (B.Board.shape self.now.board.now).sites }
+        requires narrowing { Narrowing (B.Board.shape self.now.board.now) (at self.now.counts.now) (at self.now.end.now) (waits queue.old.list) queue.old.marks.now }
+        ensures largest { Largest (B.Board.shape self.now.board.now) (at self.now.counts.now) (at self.now.end.now) (marked queue.new.marks.now) }
+        ensures size { length queue.new.marks.now ≡ length queue.old.marks.now }
     {
-        while let Some(v) = list.pop() {
-            bytes[v] = SEEN;
-            if self.end[v] < u64::from(links_into(self.board, bytes, v)) {
+        while let Some(v) = queue.take(SEEN) {
+            if self.end[v] < u64::from(links_into(self.board, queue.marks(), v)) {
                 continue;
             }
-            bytes[v] = OUT;
-            wait_round(self.board, list, bytes, v, SEEN);
+            queue.rest(v, OUT);
+            queue.wait_round(self.board, v, SEEN);
         }
     }
 
@@ -84,9 +79,9 @@ impl<'a, B: Board> Certificate<'a, B> {
         requires bytes { (B.Board.shape self.now.board.now).sites ≤ length bytes.old }
         ensures { LowestBack (B.Board.shape self.now.board.now) (at self.now.counts.now) (at self.now.end.now) result }
     {
-        let mut list = WaitingList::new(waiting);
-        self.enter(&mut list, bytes);
-        self.narrow(&mut list, bytes);
-        lowest_marked(bytes, self.counts.len())
+        let mut queue = Queue::new(self.counts.len(), waiting, bytes);
+        self.enter(&mut queue);
+        self.narrow(&mut queue);
+        lowest_marked(queue.marks())
     }
 }

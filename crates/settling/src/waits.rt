@@ -27,35 +27,6 @@ pub struct Queue<'a, E: Entry> {
     ghost queued: { Queued E.Entry.site (length marks.now) (waits list) marks.now },
 }
 
-// Has `v` wait as the last, if its mark reads `idle`.
-pub fn wait<E: Entry>(list: &mut WaitingList<E>, marks: &mut [u8], v: usize, idle: u8)
-    ensures turned { Turned (λ u. u ≡ v) idle marks.old marks.new }
-    ensures queued { (n : ℕ) → v < n → n ≤ length marks.old → n ≤ room list.old → idle ≢ 1 → Queued E.Entry.site n (waits list.old) marks.old → Queued E.Entry.site n (waits list.new) marks.new }
-    ensures room { room list.new ≡ room list.old }
-{
-    if v < marks.len() && marks[v] == idle {
-        marks[v] = WAITS;
-        let _pushed = list.push(E::of_site(v));
-    }
-}
-
-// Has each site that `v` is linked to wait, if its mark reads `idle`, the lowest first.
-pub fn wait_round<B: Board, E: Entry>(
-    board: &B,
-    list: &mut WaitingList<E>,
-    marks: &mut [u8],
-    v: usize,
-    idle: u8,
-)
-    ensures turned { Turned (λ u. 0 < (B.Board.shape board.now).m v u) idle marks.old marks.new }
-    ensures queued { let n = (B.Board.shape board.now).sites in n ≤ length marks.old → n ≤ room list.old → idle ≢ 1 → Queued E.Entry.site n (waits list.old) marks.old → Queued E.Entry.site n (waits list.new) marks.new }
-    ensures room { room list.new ≡ room list.old }
-{
-    for u in Neighbours::of(board, v) {
-        wait(list, marks, u, idle);
-    }
-}
-
 // Has `v`, which does not wait, wait as the last.
 fn put_last<E: Entry>(list: &mut WaitingList<E>, marks: &mut [u8], v: usize)
     requires on { v < length marks.old }
@@ -103,7 +74,7 @@ impl<'a, E: Entry> Queue<'a, E> {
     pub fn marks(&self) -> &[u8]
         ensures { result.now ≡ self.now.marks.now }
     {
-        self.marks
+        &*self.marks
     }
 
     // Has `v` wait as the last, if its mark reads `idle`.
