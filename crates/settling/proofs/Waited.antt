@@ -1,11 +1,11 @@
 -- Sites that were had wait: their marks, and which of them wait.
-use Rattle.std.proofs.Common.{◌≡◌, ℕ, ◌+◌, ◌<◌, ◌≤◌, Bool, ◌⊎◌, List, length, set, sym, refl, ap, ◌∙◌, subst, inl, inr, arith}
+use Rattle.std.proofs.Common.{◌≡◌, ℕ, ◌+◌, ◌<◌, ◌≤◌, Bool, ◌⊎◌, List, [], ◌∷◌, ◌++◌, length, set, sym, refl, ap, ◌∙◌, subst, inl, inr, append_assoc, append-nil, arith}
 use Rattle.std.proofs.lemmas.Bool.{cases_lt, cases_eq}
 use Rattle.board.specs.Shape.{Least}
 use Rattle.waiting.specs.declared.WaitingList.{WaitingList}
 use Rattle.waiting.specs.WaitingLists.{waits, room, Pushed}
 use Rattle.settling.specs.Searches.{mark, Queued}
-use Rattle.settling.specs.Waits.{Turned}
+use Rattle.settling.specs.Waits.{Turned, Rising, Joined}
 use Rattle.settling.proofs.Queues.{mark_here, mark_there, queued_wait, pushed_wait}
 
 -- no site of P has a mark that reads `idle`
@@ -63,6 +63,36 @@ module _ {T : Type 0} (site : T → ℕ) where
       let free : mark fs v ≡ 1 → ⊥ = λ one. ne (sym read ∙ one) in
       subst (λ w. Queued site n w (set fs v 1)) (sym (pushed_wait site n v e q q' r fs is rooms long on free wait p)) (queued_wait site n v e (waits q) fs is long on free wait)
 
+-- entries that come one after another
+module _ {T : Type 0} (site : T → ℕ) where
+  rising_wide : (lo hi hi' : ℕ) (es : List T) → hi ≤ hi' → Rising site lo hi es → Rising site lo hi' es
+  rising_wide lo hi hi' [] le r = omega arith
+  rising_wide lo hi hi' (e ∷ es) le r = (r.0, rising_wide (site e + 1) hi hi' es le r.1)
+
+  rising_from : (lo lo' hi : ℕ) (es : List T) → lo ≤ lo' → Rising site lo' hi es → Rising site lo hi es
+  rising_from lo lo' hi [] le r = omega arith
+  rising_from lo lo' hi (e ∷ es) le r = (omega (arith, r.0), r.1)
+
+  rising_append : (lo mid hi : ℕ) (es es' : List T) → Rising site lo mid es → Rising site mid hi es' → Rising site lo hi (es ++ es')
+  rising_append lo mid hi [] es' r s = rising_from lo mid hi es' r s
+  rising_append lo mid hi (e ∷ es) es' r s = (r.0, rising_append (site e + 1) mid hi es es' r.1 s)
+
+  pub joined_none : (lo hi : ℕ) (es : List T) → lo ≤ hi → Joined site lo hi es es
+  joined_none lo hi es le = record { more = []; is = sym (append-nil es); rising = le }
+
+  pub joined_one : (v : ℕ) (e : T) (es es' : List T) → site e ≡ v → es' ≡ es ++ e ∷ [] → Joined site v (v + 1) es es'
+  joined_one v e es es' is put = record { more = e ∷ []; is = put; rising = (omega arith, omega arith) }
+
+  pub joined_then : (lo mid at hi : ℕ) (es es' es'' : List T) → mid ≤ at → Joined site lo mid es es' → Joined site at hi es' es'' → Joined site lo hi es es''
+  joined_then lo mid at hi es es' es'' le j k = record {
+    more = j.more ++ k.more;
+    is = k.is ∙ ap (λ x. x ++ k.more) j.is ∙ append_assoc es j.more k.more;
+    rising = rising_append lo mid hi j.more k.more j.rising (rising_from mid at hi k.more le k.rising);
+  }
+
+  pub joined_wide : (lo hi hi' : ℕ) (es es' : List T) → hi ≤ hi' → Joined site lo hi es es' → Joined site lo hi' es es'
+  joined_wide lo hi hi' es es' le j = record { more = j.more; is = j.is; rising = rising_wide lo hi hi' j.more le j.rising }
+
 -- a walk over the sites that v is linked to: those below j have been had wait
 pub walked_one : (m : ℕ → ℕ) (idle j u : ℕ) (fs fs' fs'' : List ℕ) → length fs' ≡ length fs → Least m j u → Turned (λ k. (k < j) × (0 < m k)) idle fs fs' → Turned (λ k. k ≡ u) idle fs' fs''
     → Turned (λ k. (k < u + 1) × (0 < m k)) idle fs fs''
@@ -85,3 +115,8 @@ walked_whole m idle j fs fs' past t = record {
   all = λ u p l e. t.all u (elim (cases_lt u j) [ inl before ↦ (before, p) | inr from ↦ absurd (omega (arith, past u from)) ]) l e;
   only = λ u. elim (t.only u) [ inl same ↦ inl same | inr new ↦ inr (new.0, new.1, new.2.1) ];
 }
+
+module _ {T : Type 0} (site : T → ℕ) where
+  -- the next site of the walk joins
+  pub joined_next : (m : ℕ → ℕ) (j u i : ℕ) (es es' es'' : List T) → Least m j u → i ≡ u + 1 → Joined site 0 j es es' → Joined site u (u + 1) es' es'' → Joined site 0 i es es''
+  joined_next m j u i es es' es'' least is a b = subst (λ k. Joined site 0 k es es'') (sym is) (joined_then site 0 j u (u + 1) es es' es'' (omega (arith, least.from)) a b)

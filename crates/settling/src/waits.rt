@@ -1,8 +1,8 @@
 // Waiting by marks: a site whose mark reads `idle` is had wait, and its mark reads 1 then, so that none waits twice.
-ghost use Rattle.std.specs.Prelude.{◌≡◌, ◌≢◌, ℕ, ◌<◌, ◌≤◌, [], length, min, slice_set};
+ghost use Rattle.std.specs.Prelude.{◌≡◌, ◌≢◌, ℕ, ◌+◌, ◌<◌, ◌≤◌, [], length, min, slice_set};
 ghost use Rattle.waiting.specs.WaitingLists.{waits, room};
 ghost use Rattle.settling.specs.Searches.{mark, Queued};
-ghost use Rattle.settling.specs.Waits.{Turned, Rests, Taken, Rested};
+ghost use Rattle.settling.specs.Waits.{Turned, Joined, Rests, Taken, Rested};
 
 use super::Entry;
 use board::Board;
@@ -34,6 +34,7 @@ fn put_last<E: Entry>(list: &mut WaitingList<E>, marks: &mut [u8], v: usize)
     requires room { length marks.old ≤ room list.old }
     requires queued { Queued E.Entry.site (length marks.old) (waits list.old) marks.old }
     ensures marked { marks.new ≡ slice_set marks.old v 1 }
+    ensures joined { Joined E.Entry.site v (v + 1) (waits list.old) (waits list.new) }
     ensures queued { Queued E.Entry.site (length marks.old) (waits list.new) marks.new }
     ensures room { room list.new ≡ room list.old }
 {
@@ -80,6 +81,7 @@ impl<'a, E: Entry> Queue<'a, E> {
     // Has `v` wait as the last, if its mark reads `idle`.
     pub fn wait(&mut self, v: usize, idle: u8)
         ensures turned { Turned (λ u. u ≡ v) idle self.old.marks.now self.new.marks.now }
+        ensures joined { Joined E.Entry.site v (v + 1) (waits self.old.list) (waits self.new.list) }
         ensures size { length self.new.marks.now ≡ length self.old.marks.now }
     {
         if v < self.marks.len() && self.marks[v] == idle && idle != WAITS {
@@ -90,6 +92,7 @@ impl<'a, E: Entry> Queue<'a, E> {
     // Has each site that `v` is linked to wait, if its mark reads `idle`, the lowest first.
     pub fn wait_round<B: Board>(&mut self, board: &B, v: usize, idle: u8)
         ensures turned { Turned (λ u. 0 < (B.Board.shape board.now).m v u) idle self.old.marks.now self.new.marks.now }
+        ensures joined { Joined E.Entry.site 0 (B.Board.shape board.now).sites (waits self.old.list) (waits self.new.list) }
         ensures size { length self.new.marks.now ≡ length self.old.marks.now }
     {
         for u in Neighbours::of(board, v) {
