@@ -56,7 +56,7 @@ pub(crate) fn mark_ready<B: Board>(board: &B, heights: &[u64], marks: &mut [u8])
     ready
 }
 
-// The mark of a site that can fire.
+// The mark of a site that can fire. (A number, since it stands in a byte that the caller lends.)
 const READY: u8 = 1;
 
 // Fires each marked site once, and counts it; the grains that go to the drain.

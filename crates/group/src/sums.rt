@@ -56,7 +56,8 @@ fn add(a: &[u64], b: &[u64], answer: &mut [u64])
     }
 }
 
-// Twice the height of `v` in M, which is one below the height from which it fires.
+// Twice the height of `v` in M, which is one below the height from which it fires. (That all sites reach the drain stays a
+// clause: a struct of the board alone would hold nothing else.)
 fn twice_full<B: Board>(board: &B, v: usize) -> u64
     requires on { v < (B.Board.shape board.now).sites }
     requires reach { AllReach (B.Board.shape board.now) }

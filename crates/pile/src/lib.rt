@@ -22,7 +22,7 @@ use layer::earth::Earth;
 use layer::merge::{Merge, Pair};
 use refusal::Refusal;
 
-// The board with `w` earthed.
+// The board with `w` earthed. (Three functions, as the layers are three of their own.)
 pub fn with_earth<B: Board + Drop>(board: B, w: usize) -> Result<Earth<B>, Refusal>
     ensures { elim result [ Ok e ↦ Passed (earth_checks (B.Board.shape board) Nothing w) × (earth_of (B.Board.shape e.below) e.site ≡ earthed w (B.Board.shape board)) | Err e ↦ Refused (earth_checks (B.Board.shape board) Nothing w) parts.Earth e ] }
 {

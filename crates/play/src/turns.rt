@@ -37,7 +37,8 @@ fn ended(reply: Result<Answer, (Refusal, Ticket)>) -> (Option<Ticket>, Answer)
     }
 }
 
-// One call, with the ticket in hand before and after it.
+// One call, with the ticket in hand before and after it. (Bench and ticket stay two: the bench is the caller's, the ticket the
+// play's own.)
 pub(crate) fn turn<B: Board>(
     board: &B,
     bench: &mut Bench,

@@ -8,14 +8,15 @@ use crate::settle::{Outcome, check, settle_counted};
 use board::Board;
 use refusal::{Part, Refusal, Row};
 
-// Whether no count is above 1,000,000,000,000.
+// Whether no count is above 1,000,000,000,000. (Certificates have a line of `all` like it: shared it would be no shorter.)
 fn all_low(counts: &[u64]) -> bool
     ensures { result ≡ list_all (λ c. nat_le c 1000000000000) counts.now }
 {
     counts.iter().all(|c| *c <= 1_000_000_000_000)
 }
 
-// Settles `heights` as `settle` does, and adds each site's firings to its count.
+// Settles `heights` as `settle` does, and adds each site's firings to its count. (Apart from `settle`: it looks at the counts
+// as well, between the check and the work that both share.)
 pub fn settle_counting<B: Board>(
     board: &B,
     heights: &mut [u64],

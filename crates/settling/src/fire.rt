@@ -44,7 +44,8 @@ pub fn all_grains(heights: &[u64], limit: u64) -> Option<u64>
     Some(sum)
 }
 
-// Fires `v` so often in a row; `lost` is what it gives in all.
+// Fires `v` so often in a row; `lost` is what it gives in all. (Board, heights and site stay parameters, here and below: of
+// heights that a struct's field lends, the caller knows only the length once the struct is gone.)
 pub(crate) fn fire_times<B: Board>(board: &B, heights: &mut [u64], v: usize, times: u64, lost: u64)
     requires sized { length heights.old ≡ (B.Board.shape board.now).sites }
     requires on { v < (B.Board.shape board.now).sites }

@@ -30,7 +30,8 @@ fn is_light_near<B: Board>(board: &B, heights: &[u64], v: usize) -> bool
     is_light(heights, v)
 }
 
-// Fires `v` once; looks at the sites that take part, and at no other.
+// Fires `v` once; looks at the sites that take part, and at no other. (Apart from `fire`: the two refuse by different limits,
+// and share `fire_light`.)
 pub fn fire_near<B: Board>(
     board: &B,
     heights: &mut [u64],

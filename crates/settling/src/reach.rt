@@ -10,7 +10,7 @@ use crate::waits::Queue;
 use board::Board;
 use refusal::{Part, Refusal, Row};
 
-// The mark of a site that is not found yet.
+// The mark of a site that is not found yet. (A number, as `waits` says.)
 const UNFOUND: u8 = 0;
 
 // The mark of a site that is found, and what it is linked to as well.
@@ -23,6 +23,7 @@ fn from_drain<B: Board, E: Entry>(board: &B, queue: &mut Queue<E>)
     ensures searching { Searching E.Entry.site (B.Board.shape board.now) (waits queue.new.list) queue.new.marks.now }
     ensures size { length queue.new.marks.now ≡ length queue.old.marks.now }
 {
+    // by site: the board is asked about each
     for v in 0..board.count() {
         if board.drain(v) >= 1 {
             queue.wait(v, UNFOUND);

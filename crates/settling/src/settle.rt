@@ -22,7 +22,7 @@ pub struct Outcome {
     pub still: bool,
 }
 
-// The mark of a site that does not wait.
+// The mark of a site that does not wait. (A number, as `waits` says.)
 const IDLE: u8 = 0;
 
 // Fires `v` as often as its height and `limit` allow, and says how often.
@@ -42,7 +42,8 @@ fn visit<B: Board>(board: &B, heights: &mut [u64], v: usize, limit: u64) -> u64
     times
 }
 
-// Counts so many more firings of `v`, where counts are kept: an empty list keeps none.
+// Counts so many more firings of `v`, where counts are kept: an empty list keeps none. (No Option of a list: it would be
+// taken apart at each visit.)
 fn note(counts: &mut [u64], v: usize, times: u64)
     requires { at counts.old v + times < 2 ^ 64 }
     ensures { Noted v times counts.old counts.new }
@@ -71,6 +72,7 @@ fn work_off<B: Board>(
     ensures still { result < limit → Still (B.Board.shape board.now) (at heights.new) }
 {
     let mut fired = 0;
+    // a `while`: a visit says how many firings it made
     while fired < limit {
         let Some(v) = queue.take(IDLE) else { break };
         let times = visit(board, heights, v, limit - fired);
@@ -91,6 +93,7 @@ fn scan<B: Board>(board: &B, heights: &[u64], queue: &mut Queue<usize>)
     ensures covered { Covered (B.Board.shape board.now) (at heights.now) queue.new.marks.now }
     ensures size { length queue.new.marks.now ≡ length queue.old.marks.now }
 {
+    // by site: the board is asked about each
     for v in 0..board.count() {
         if can_fire(board, heights, v) {
             queue.wait(v, IDLE);

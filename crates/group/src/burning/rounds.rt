@@ -64,8 +64,8 @@ struct Fire<'a> {
     ghost marks_fit: { length heights.now ≤ length marks.now },
 }
 
-// The numbers of `rounds` stay a parameter: of a list that a struct's field lends, the caller knows only the length once the
-// struct is gone.
+// The numbers of `rounds` stay a parameter, and the board with them: of a list that a struct's field lends, the caller knows
+// only the length once the struct is gone.
 impl<'a> Fire<'a> {
     // Holds the height of `u` against its links to what still counts as unburnt; if it is as high, it burns in the
     // round after `last`.
