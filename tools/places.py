@@ -8,7 +8,7 @@ import sys
 POINTS = {
     "1": [
         ("a number that means nothing", r"-> u8\n(?:    ensures.*\n)+\{\n    0\n\}"),
-        ("a refusal as numbers", r"-> (?:Result<)?\(+u8, u64"),
+        ("a refusal as numbers", r"->[^{;]*\bu8, u64"),
         ("a number for a kind", r"fn \w+(?:<[^>]*>)?\([^)]*\) -> (?:u8|\(u8, u8\))\n(?!(?:    ensures.*\n)+\{\n    0\n\})"),
         ("a mark written as a number", r"(?:bytes|marks)\[\w+\] (?:=|==|>) \d;?|\{ 2 \} else \{ 0 \}"),
         ("true or false for done or refused", r"fn (?:push|settle_within)\b[^{]*-> bool"),
