@@ -133,24 +133,6 @@ module _ {T : Type 0} (site : T → ℕ) where
     ];
   }
 
-  -- one site more is marked, and does not wait
-  pub queued_more : (n x : ℕ) (es : List T) (fs : List ℕ) → n < length fs → (x ≡ 1 → ⊥) → x ≤ 2 → Queued site n es fs → Queued site (n + 1) es (set fs n x)
-  queued_more n x es fs long ne le q = record {
-    off = λ u l. q.off u (omega arith);
-    once = λ u l one. elim (cases_eq u n) [
-      | inl same ↦ absurd (ne (sym (mark_here fs n x u long same) ∙ one))
-      | inr apart ↦ q.once u (omega arith) (sym (mark_there fs n x u apart) ∙ one)
-    ];
-    none = λ u l not. elim (cases_eq u n) [
-      | inl same ↦ q.off u (omega arith)
-      | inr apart ↦ q.none u (omega arith) (λ p. not (mark_there fs n x u apart ∙ p))
-    ];
-    most = λ u l. elim (cases_eq u n) [
-      | inl same ↦ omega (arith, mark_here fs n x u long same)
-      | inr apart ↦ omega (arith, mark_there fs n x u apart, q.most u (omega arith))
-    ];
-  }
-
   -- a push where there is room
   pushed_in : (q q' : WaitingList T) (e : T) (r : Bool) → Pushed q e q' r → length (waits q) < room q → waits q' ≡ waits q ++ e ∷ []
   pushed_in q q' e true p l = p.1

@@ -3,10 +3,9 @@ ghost use Rattle.std.specs.Prelude.{◌≡◌, ℕ, ◌+◌, ◌^◌, ◌<◌, �
 ghost use Rattle.refusal.specs.Table.{InOrder, rows};
 ghost use Rattle.board.specs.Shape.{sum_below};
 ghost use Rattle.firing.specs.Firing.{Still};
-ghost use Rattle.waiting.specs.WaitingLists.{waits};
 ghost use Rattle.firing.specs.Firing.{at};
 ghost use Rattle.settling.specs.Searches.{mark};
-ghost use Rattle.settling.specs.Marks.{Queued, Covered, Visited};
+ghost use Rattle.settling.specs.Marks.{Covered, Visited};
 ghost use Rattle.settling.specs.Settlings.{Noted, Tallied, Counted, Fit, Checked, SettledBy, settle_checks};
 
 use crate::fire::{all_grains, can_fire, fire_times, is_enough, lowest_ready};
@@ -65,7 +64,7 @@ fn work_off<B: Board>(
     requires size { length queue.old.marks.now ≡ (B.Board.shape board.now).sites }
     requires low { sum_below (B.Board.shape board.now).sites (at heights.old) ≤ 1000000 }
     requires few { (u : ℕ) → at counts.old u + limit < 2 ^ 64 }
-    requires queued { Queued (B.Board.shape board.now).sites (waits queue.old.list) queue.old.marks.now }
+    requires marks { (u : ℕ) → u < (B.Board.shape board.now).sites → mark queue.old.marks.now u ≤ 1 }
     requires covered { Covered (B.Board.shape board.now) (at heights.old) queue.old.marks.now }
     ensures tallied { Tallied (B.Board.shape board.now) (at heights.old) (at heights.new) counts.old counts.new result }
     ensures within { result ≤ limit }
@@ -89,7 +88,7 @@ fn work_off<B: Board>(
 fn scan<B: Board>(board: &B, heights: &[u64], queue: &mut Queue<usize>)
     requires size { length queue.old.marks.now ≡ (B.Board.shape board.now).sites }
     requires idle { (u : ℕ) → mark queue.old.marks.now u ≡ 0 }
-    ensures queued { Queued (B.Board.shape board.now).sites (waits queue.new.list) queue.new.marks.now }
+    ensures marks { (u : ℕ) → u < (B.Board.shape board.now).sites → mark queue.new.marks.now u ≤ 1 }
     ensures covered { Covered (B.Board.shape board.now) (at heights.now) queue.new.marks.now }
     ensures size { length queue.new.marks.now ≡ length queue.old.marks.now }
 {

@@ -11,7 +11,15 @@ use Rattle.settling.proofs.settle.work_off.Goals as goal
 
 pub loop-fired-init : goal.loop-fired-init
 loop-fired-init g c =
-    (record { tallied = tallied_none (g.B.Board.shape c.args.board.now) (at c.args.heights.now) c.args.counts.now; queued = c.requires.queued; covered = λ l. c.requires.covered; within = omega arith }, c.requires.size)
+    let q = c.args.queue.now in (
+      record {
+        tallied = tallied_none (g.B.Board.shape c.args.board.now) (at c.args.heights.now) c.args.counts.now;
+        queued = record { queued = subst (λ n. Queued (λ v. v) n (waits q.list) q.marks.now) c.requires.size q.queued; low = c.requires.marks };
+        covered = λ l. c.requires.covered;
+        within = omega arith;
+      },
+      c.requires.size,
+    )
 
 pub visit-times-requires : goal.visit-times-requires
 visit-times-requires g c = record {
