@@ -10,7 +10,8 @@ use refusal::{Part, Refusal, Row};
 use settling::fire::all_grains;
 use settling::reach::reach;
 
-// The grains of the start, if a bench may be made of it.
+// The grains of the start, if a bench may be made of it. (Waiting list and bytes are slices of their own, here and in a run:
+// slices keep their length by themselves.)
 fn may_create<B: Board>(
     board: &B,
     memory: &SiteMemory,

@@ -18,7 +18,7 @@ mod formula;
 mod limits;
 
 impl<'a, B: Board> Certificate<'a, B> {
-    // The verdict.
+    // The verdict. (Waiting list and bytes are slices of their own: slices keep their length by themselves.)
     fn judge(&self, waiting: &mut [usize], bytes: &mut [u8]) -> Result<(), Refusal>
         requires waiting { (B.Board.shape self.now.board.now).sites ≤ length waiting.old }
         requires bytes { (B.Board.shape self.now.board.now).sites ≤ length bytes.old }

@@ -27,7 +27,8 @@ pub struct Queue<'a, E: Entry> {
     ghost queued: { Queued E.Entry.site (length marks.now) (waits list) marks.now },
 }
 
-// Has `v`, which does not wait, wait as the last.
+// Has `v`, which does not wait, wait as the last. (List and marks apart, here and below: what a queue promises holds at each
+// write of its fields, so both change in one call.)
 fn put_last<E: Entry>(list: &mut WaitingList<E>, marks: &mut [u8], v: usize)
     requires on { v < length marks.old }
     requires rests { mark marks.old v ≢ 1 }

@@ -20,10 +20,3 @@ loop-i-preserved g c =
           t.ensures.agree t.ensures.kept t.ensures.filed,
       t.ensures.same ∙ c.loop-i.invariant.1,
     )
-
-pub returns : goal.returns
-returns g c = record {
-  played = playing_ends (state c.args.bench.now) (state c.lay_aside.new.bench) (entries c.args.records.now) (held c.args.records.now) c.args.calls.now c.loop-i.answers c.loop-i.i
-      (place (state c.loop-i.bench) c.loop-i.held (entries c.loop-i.records) (held c.loop-i.records)) (omega arith) (omega (arith, c.loop-i.auto.answers, c.requires.even)) c.loop-i.invariant.0 c.lay_aside.ensures.aside c.lay_aside.ensures.law;
-  same = c.loop-i.invariant.1;
-}

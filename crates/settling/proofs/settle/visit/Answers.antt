@@ -1,23 +1,14 @@
 -- What is left to show of `visit`.
-use Rattle.std.proofs.Common.{◌≡◌, ◌*◌, ◌/◌, min, ap, ◌∙◌, subst}
+use Rattle.std.proofs.Common.{◌≡◌, ◌/◌, min, ◌∙◌, subst}
 use Rattle.firing.specs.Firing.{at}
 use Rattle.settling.specs.Firings.{Enough}
-use Rattle.settling.proofs.Visits.{times_fit, visited_some, visited_none}
+use Rattle.settling.proofs.Visits.{visited_some, visited_none}
 use Rattle.settling.proofs.settle.visit.Goals as goal
 
 pub returns-then-not-is_enough : goal.returns-then-not-is_enough
 returns-then-not-is_enough g c =
     visited_none (g.B.Board.shape c.args.board.now) c.args.v c.args.limit c.args.heights.now
     (subst (λ d. Enough d (at c.args.heights.now c.args.v) → ⊥) (c.from-links.ensures ∙ c.degree.ensures) c.if-not-is_enough.ensures)
-
-pub fire_times-requires : goal.fire_times-requires
-fire_times-requires g c = record {
-  sized = c.requires.sized;
-  on = c.requires.on;
-  gives = ap (λ d. d * c.min-times.result) (c.from-links.ensures ∙ c.degree.ensures);
-  has = times_fit c.from-links.result (at c.args.heights.now c.args.v) c.min-times.result c.args.limit c.min-times.ensures;
-  low = λ u near. c.requires.low u;
-}
 
 pub returns : goal.returns
 returns g c =
