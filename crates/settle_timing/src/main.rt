@@ -40,7 +40,7 @@ impl Table {
         for _ in 0..many {
             seed = seed.wrapping_mul(1_664_525).wrapping_add(1_013_904_223);
             // by as: a `u32` has no `From` into `usize`
-        let v = (seed / 1_048_576) as usize;
+            let v = (seed / 1_048_576) as usize;
             if let Some(h) = self.heights.get_mut(v) {
                 *h = h.wrapping_add(1);
             }

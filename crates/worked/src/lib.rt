@@ -5,5 +5,4 @@ ghost use Rattle.worked.specs.Results.{Results};
 
 pub fn all_results()
     ensures { Results }
-{
-}
+{}
