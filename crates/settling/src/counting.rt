@@ -32,7 +32,8 @@ pub fn settle_counting<B: Board>(
         return Err(part.refuse(Row::Memory));
     }
     check(board, heights, waiting.len(), marks.len(), budget, part)?;
-    if !all_low(counts) {
+    let low = all_low(counts);
+    if !low {
         return Err(part.refuse(Row::Limit));
     }
     Ok(settle_counted(board, heights, counts, waiting, marks, budget))

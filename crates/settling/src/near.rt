@@ -17,17 +17,20 @@ fn is_light(heights: &[u64], v: usize) -> bool
     heights.get(v).copied().unwrap_or(0) <= 1_000_000
 }
 
-// Whether neither `v` nor a site linked to it is above 1,000,000.
+// Whether neither `v` nor a site linked to it is above 1,000,000; a heavy `v` asks the board nothing.
 fn is_light_near<B: Board>(board: &B, heights: &[u64], v: usize) -> bool
     ensures { LightNear (B.Board.shape board.now) heights.now v result }
 {
+    if !is_light(heights, v) {
+        return false;
+    }
     // a loop: of `all` over these sites no proof was found, since what an iterator of our own gives does not unfold there
     for u in Neighbours::of(board, v) {
         if !is_light(heights, u) {
             return false;
         }
     }
-    is_light(heights, v)
+    true
 }
 
 // Fires `v` once; looks at the sites that take part, and at no other. (Apart from `fire`: the two refuse by different limits,

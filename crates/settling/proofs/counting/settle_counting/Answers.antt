@@ -10,16 +10,16 @@ returns-in_err-check g c =
     let sized : length c.args.counts.now ≡ b.sites = omega arith in
     counting_kept b c.args.heights.now c.args.counts.now (length c.args.waiting.now) (length c.args.marks.now) c.args.budget sized c.args.part c.in_err-check.field-0.0 c.from_residual.result c.in_err-check.ensures c.from_residual.ensures.1
 
-pub returns-then-not-all_low : goal.returns-then-not-all_low
-returns-then-not-all_low g c =
-    let high : (u : ℕ) × (1000000000000 < at c.args.counts.now u) = some_high c.args.counts.now (sym c.all_low.ensures ∙ c.if-not-all_low.true) in
+pub returns-then-not-low : goal.returns-then-not-low
+returns-then-not-low g c =
+    let high : (u : ℕ) × (1000000000000 < at c.args.counts.now u) = some_high c.args.counts.now (sym c.all_low-low.ensures ∙ c.if-not-low.true) in
     search rules
 
 pub settle_counted-requires-clause-few : goal.settle_counted-requires-clause-few
 settle_counted-requires-clause-few g c = λ u.
     omega (
       arith,
-      all_low c.args.counts.now (sym c.all_low.ensures ∙ c.if-not-all_low.false) u,
+      all_low c.args.counts.now (sym c.all_low-low.ensures ∙ c.if-not-low.false) u,
       budget_fits (g.B.Board.shape c.args.board.now).sites c.args.heights.now (length c.args.waiting.now) (length c.args.marks.now) c.args.budget c.in_ok-check.ensures.0,
     )
 
@@ -28,6 +28,6 @@ returns g c =
     let n = (g.B.Board.shape c.args.board.now).sites in
     let sized : length c.args.counts.now ≡ n = omega arith in (
       counting_passed n c.args.heights.now c.args.counts.now (length c.args.waiting.now) (length c.args.marks.now) c.args.budget sized c.in_ok-check.ensures.0
-          (all_low c.args.counts.now (sym c.all_low.ensures ∙ c.if-not-all_low.false)),
+          (all_low c.args.counts.now (sym c.all_low-low.ensures ∙ c.if-not-low.false)),
       c.settle_counted.ensures,
     )

@@ -19,4 +19,4 @@ pub loop-u-preserved : goal.loop-u-preserved
 loop-u-preserved g c =
     spread_more (g.met.B.Board.sound c.args.board.now) c.args.v c.args.times c.loop-u.j c.in-Some.u _ _ c.loop-u.heights
     (omega (arith, simp length-set at c.loop-u.auto.heights)) c.loop-u.invariant c.in-Some.ensures
-    (ap (λ m. get_or c.loop-u.heights c.in-Some.u 0 + m * c.args.times) (c.from.ensures ∙ c.links.ensures))
+    (omega (arith, ap (λ m. m * c.args.times) (c.from.ensures ∙ c.links.ensures)))
