@@ -1,5 +1,5 @@
 // Cut: a layer that takes links away.
-ghost use Rattle.std.specs.Prelude.{◌≤◌, All};
+ghost use Rattle.std.specs.Prelude.{◌≤◌, All, length};
 
 use arrayvec::ArrayVec;
 use board::link::Link;
@@ -12,5 +12,6 @@ mod make;
 pub struct Cut<B> {
     below: B,
     entries: ArrayVec<Link, 32>,
+    ghost room: { length entries.items ≤ 32 },
     ghost low: { All (λ l. l.count ≤ 500000) entries.items },
 }

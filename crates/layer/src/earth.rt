@@ -58,13 +58,14 @@ impl<B: Board> Earth<B> {
         [Row::Site, Row::LayerSet]
     }
 
-    // The site that takes effect.
+    // The site that takes effect. (An idle layer asks the board below nothing for it, so that idle layers cost a step each.)
     fn active(&self) -> Option<usize>
         ensures is { earth_active (B.Board.shape self.now.below) self.now.site ≡ result }
         ensures on { EarthOn (B.Board.shape self.now.below) result }
     {
+        let w = self.site?;
         let n = self.below.count();
-        self.site.filter(|w| *w < n && 1 < n)
+        (w < n && 1 < n).then_some(w)
     }
 }
 

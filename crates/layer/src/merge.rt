@@ -66,14 +66,14 @@ impl<B: Board> Merge<B> {
         [Row::Site, Row::LayerSet]
     }
 
-    // The pair that takes effect.
+    // The pair that takes effect; an idle layer asks the board below nothing, as in earth.
     fn active(&self) -> Option<Pair>
         ensures is { merge_active (B.Board.shape self.now.below) self.now.pair ≡ result }
         ensures on { MergeOn (B.Board.shape self.now.below) result }
     {
+        let pair = self.pair?;
         let n = self.below.count();
-        self.pair
-            .filter(|pair| pair.a < n && pair.b < n && pair.a != pair.b)
+        (pair.a < n && pair.b < n && pair.a != pair.b).then_some(pair)
     }
 }
 

@@ -87,7 +87,11 @@ invariant_of-self g c =
     let h = found_at xs c.args.a c.args.b _ i c.find-found.ensures c.in-Some-found.is in
     let small = raise_fits (g.B.Board.shape e.below) (g.met.B.Board.sound e.below) i xs h.0 c.args.a c.args.b c.args.k (omega arith) h.1 (omega arith) in
     let P : List Link → Type 0 = λ ys. All (λ l. l.count ≤ 500000) ys in
-    record { low = subst P (sym (written xs c.deref_mut.result.now i c.args.k c.deref_mut.ensures.value)) (All-set (λ l. l.count ≤ 500000) xs i (raised (slice_index_or xs i no_link) c.args.k) small e.low) }
+    let done = written xs c.deref_mut.result.now i c.args.k c.deref_mut.ensures.value in
+    record {
+      room = omega (arith, ap length done, length-set xs i (raised (slice_index_or xs i no_link) c.args.k), e.room);
+      low = subst P (sym done) (All-set (λ l. l.count ≤ 500000) xs i (raised (slice_index_or xs i no_link) c.args.k) small e.low);
+    }
 
 pub returns-in-Some-found-clause-made : goal.returns-in-Some-found-clause-made
 returns-in-Some-found-clause-made g c =
@@ -112,7 +116,16 @@ invariant_of-self-in-None g c =
     let l : Link = record { site = c.args.a; other = c.args.b; count = c.args.k } in
     let small = new_fits (g.B.Board.shape e.below) (g.met.B.Board.sound e.below) xs c.args.a c.args.b c.args.k (omega arith) in
     let P : List Link → Type 0 = λ ys. All (λ l. l.count ≤ 500000) ys in
-    record { low = subst P (sym c.push.ensures.items) (All-push (λ l. l.count ≤ 500000) xs l e.low small) }
+    let new : New xs c.args.a c.args.b = found_none xs c.args.a c.args.b (sym c.find-found.ensures ∙ c.in-None.is) in
+    let open_ : length xs ≡ 32 → ⊥
+    = λ full. elim c.else-is_none.branch [
+      | else-is_none-via-then-is_none+else-is_full w ↦ eqb-false (length xs) 32 (sym w.is_full.ensures.value ∙ w.if-is_full.false) full
+      | else-is_none-via-else-is_none w ↦ found_some xs c.args.a c.args.b c.find-found.result c.find-found.ensures (c.is_none.ensures ∙ ap not w.if-is_none.false) new
+    ] in
+    record {
+      room = omega (arith, c.push.ensures.len, e.room, open_);
+      low = subst P (sym c.push.ensures.items) (All-push (λ l. l.count ≤ 500000) xs l e.low small);
+    }
 
 pub returns-in-None-clause-made : goal.returns-in-None-clause-made
 returns-in-None-clause-made g c =
