@@ -16,6 +16,7 @@ pub struct LinkList {
     records: ArrayVec<Link, 4096>,
     ghost some: { 1 ≤ sites },
     ghost few: { sites ≤ 4096 },
+    ghost room: { length records.items ≤ 4096 },
     ghost fit: { FitsAll records.items (length records.items) sites },
     ghost adds: { total ≡ weights records.items (length records.items) },
     ghost limit: { total ≤ 500000 },

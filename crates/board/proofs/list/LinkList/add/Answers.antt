@@ -59,9 +59,11 @@ invariant_of-self c =
     let l : Link = record { site = c.args.a; other = c.args.b; count = c.args.k } in
     let some : 1 ≤ c.args.k = search rules in
     let pushed = c.push.ensures.items in
+    let open_ : length b.records.items ≢ 4096 = search rules in
     record {
       some = b.some;
       few = b.few;
+      room = omega (arith, c.push.ensures.len, b.room, open_);
       fit = rw pushed (fits_push b.records.items b.sites l b.fit c.in_default.ensures some);
       adds = rw pushed (omega (arith, weights_push b.records.items l));
       limit = omega arith;

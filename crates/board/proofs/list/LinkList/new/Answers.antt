@@ -12,6 +12,7 @@ invariant_of-result c =
     record {
       some = search rules;
       few = search rules;
+      room = omega (arith, ap length none);
       fit = λ i h. absurd (omega (arith, ap length none));
       adds = sym (ap (λ xs. weights xs (length xs)) none ∙ weights_none []);
       limit = omega arith;
