@@ -86,6 +86,10 @@ impl Board for Ring {
             return None;
         }
         let (low, high) = self.sides(v);
-        [low, high].into_iter().find(|u| *u >= j)
+        // by two tests: the two as an array, searched by `find`, took half as many instructions again
+        if low >= j {
+            return Some(low);
+        }
+        (high >= j).then_some(high)
     }
 }
