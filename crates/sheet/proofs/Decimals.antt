@@ -1,36 +1,36 @@
--- A word parsed: its digits are ASCII, and their value is the number that it says.
-use Rattle.std.proofs.Common.{◌≡◌, ℕ, ◌^◌, ◌<◌, ◌≤◌, List, length, get_or, Some, None, Ok, Err, Result, MatchOption, MatchResult, subst, arith}
-use Rattle.std.specs.Borrow.{Bor}
-use Rattle.std.specs.Int.{IsInRange}
-use Rattle.std.specs.Result.{result_ok, OkIff}
-use Rattle.std.specs.Str.{IsUtf8}
-use Rattle.std.specs.Str.Parse.{digits_value, ParsesUnsigned}
-use Rattle.std.proofs.lemmas.Fmt.{IsAscii-from_digits}
-use Rattle.std.proofs.lemmas.Str.{IsUtf8-from_ascii}
-use Rattle.std.proofs.lemmas.Str.Parse.{IsNumeralModel, numerals_by_value, tells_by_index, digits_value_short, parse_plain}
+-- Digits read one by one: a number and its value.
+use Rattle.std.proofs.Common.{◌≡◌, ℕ, ◌+◌, ◌-◌, ◌*◌, ◌<◌, ◌≤◌, List, length, get_or, take, sym, ap, ◌∙◌, subst, arith, rules}
+use Rattle.std.specs.Char.{digit_value}
+use Rattle.std.specs.Str.Parse.{AllDigits, digits_value}
+use Rattle.std.proofs.lemmas.List.{take_all, length-take-le}
+use Rattle.std.proofs.lemmas.Str.Parse.{IsNumeralModel, numerals_by_value, tells_digits, digits_value_short, digit_at}
+use Rattle.std.proofs.lemmas.Int.Digits.{digits_more, digits_value_more}
 use Rattle.sheet.specs.Parts.{Number}
 
-own : IsNumeralModel (λ ds. (i : ℕ) → i < length ds → IsInRange 48 57 (get_or ds i 0)) (digits_value 10)
-own = numerals_by_value _ tells_by_index
+own : IsNumeralModel (AllDigits 10) (digits_value 10)
+own = numerals_by_value (AllDigits 10) tells_digits
 
--- what stands in a number is text
-pub text_of : (w : List ℕ) → Number w → IsUtf8 w
-text_of w n = IsUtf8-from_ascii w (IsAscii-from_digits w (own.to w n.digits))
+digit : (c : ℕ) → 48 ≤ c → c ≤ 57 → digit_value c ≡ c - 48
+digit c lo hi = search rules
 
-pub text_is : {E : Type 0} {bs : List ℕ} (P : Type 0) (Q : E → Type 0) (r : Result (Bor (List ℕ)) E) (t : Bor (List ℕ)) → MatchResult r (λ t. (t.now ≡ bs) × P) Q → result_ok r ≡ Some t → t.now ≡ bs
-text_is {bs = bs} P Q (Ok u) t h e = let same : u ≡ t = cc in subst (λ (v : Bor (List ℕ)). v.now ≡ bs) same h.0
-text_is P Q (Err d) t h e = absurd (cc)
+-- the first i bytes are digits, and n is their number
+pub record Read (s : List ℕ) (i n : ℕ) : Type 0 where
+  pub digits : AllDigits 10 (take i s)
+  pub is : n ≡ digits_value 10 (take i s)
 
-pub no_text : {E : Type 0} {bs : List ℕ} (P : Bor (List ℕ) → Type 0) (V : E → Type 0) (r : Result (Bor (List ℕ)) E) → MatchResult r P (λ e. (IsUtf8 bs → ⊥) × V e) → result_ok r ≡ None → Number bs → ⊥
-no_text P V (Ok u) h e n = absurd (cc)
-no_text {bs = bs} P V (Err d) h e n = h.0 (text_of bs n)
+pub read_small : (s : List ℕ) (i n : ℕ) → Read s i n → i ≤ 12 → i ≤ length s → n < 1000000000000
+read_small s i n r le within = omega (arith, digits_value_short own (take i s) 12 r.digits (omega (arith, length-take-le i s within)), r.is)
 
-parsed_here : {E : Type 0} (w : List ℕ) (r : Result ℕ E) → 0 < length w → length w ≤ 13 → 48 ≤ get_or w 0 0 → (get_or w 0 0 ≡ 48 → length w ≡ 1) → OkIff r (((i : ℕ) → i < length w → IsInRange 48 57 (get_or w i 0)) × (0 < length w) × (digits_value 10 w < 2 ^ 64)) (digits_value 10 w) → MatchOption (result_ok r) (Number w → ⊥) (λ n. Number w × (n ≡ digits_value 10 w))
-parsed_here w (Ok n) some short first plain h = (record { some = some; short = short; digits = h.0.0; plain = plain }, h.1)
-parsed_here w (Err e) some short first plain h = λ n. h (n.digits, some, omega (arith, digits_value_short own w 13 n.digits short))
+pub read_more : (s : List ℕ) (i n : ℕ) → Read s i n → i < length s → 48 ≤ get_or s i 0 → get_or s i 0 ≤ 57 → Read s (i + 1) (n * 10 + (get_or s i 0 - 48))
+read_more s i n r lt lo hi =
+    let d = digit (get_or s i 0) lo hi in
+    record {
+      digits = digits_more 10 s i lt r.digits (omega arith);
+      is = sym (digits_value_more 10 s i lt ∙ ap (λ k. k * 10 + digit_value (get_or s i 0)) (sym r.is) ∙ ap (λ k. n * 10 + k) d);
+    }
 
--- a short word that begins with a digit, and with 0 only in one byte
-pub parsed : {E : Type 0} (w t : List ℕ) (r : Result ℕ E) → 0 < length w → length w ≤ 13 → 48 ≤ get_or w 0 0 → (get_or w 0 0 ≡ 48 → length w ≡ 1) → t ≡ w → ParsesUnsigned 64 10 t r → MatchOption (result_ok r) (Number w → ⊥) (λ n. Number w × (n ≡ digits_value 10 w))
-parsed {E} w t r some short first plain is h =
-    let at_w : ParsesUnsigned 64 10 w r = subst (λ v. ParsesUnsigned 64 10 v r) is h in
-    parsed_here w r some short first plain (parse_plain own 64 w r at_w (λ e. omega arith))
+pub read_all : (s : List ℕ) (i n : ℕ) → Read s i n → length s ≤ i → 0 < length s → length s ≤ 13 → (get_or s 0 0 ≡ 48 → length s ≡ 1) → Number s × (n ≡ digits_value 10 s)
+read_all s i n r all some short plain =
+    let whole = take_all i s all in
+    let ds = subst (AllDigits 10) whole r.digits in
+    (record { some = some; short = short; digits = λ k lt. let at = digit_at s k ds lt in (omega arith, omega arith); plain = plain }, r.is ∙ ap (digits_value 10) whole)

@@ -1,5 +1,5 @@
 // The words behind a line's letter: numbers, the drain, and the line's end.
-ghost use Rattle.std.specs.Prelude.{◌≡◌, ℕ, List, [], ◌∷◌, MatchOption, MatchResult};
+ghost use Rattle.std.specs.Prelude.{◌≡◌, ℕ, ◌<◌, ◌≤◌, List, [], ◌∷◌, length, slice_index_or, MatchOption, MatchResult};
 ghost use Rattle.std.specs.Str.Parse.{digits_value};
 ghost use Rattle.sheet.specs.Parts.{Number};
 ghost use Rattle.sheet.specs.Letters.{far, amount, end_value};
@@ -15,9 +15,25 @@ fn decimal(word: &[u8]) -> Option<u64>
 {
     match word {
         [b'0', _, ..] => None,
-        [b'0'..=b'9', ..] if word.len() <= 13 => str::from_utf8(word).ok()?.parse().ok(),
+        [_, ..] if word.len() <= 13 => digits(word),
         _ => None,
     }
+}
+
+// The value of up to 13 digits; none where another byte stands among them. (Digit by digit: read as text by `str::from_utf8` and
+// parsed, the check of a sheet took half as long again.)
+fn digits(word: &[u8]) -> Option<u64>
+    requires some { 0 < length word.now }
+    requires short { length word.now ≤ 13 }
+    requires plain { slice_index_or word.now 0 0 ≡ 48 → length word.now ≡ 1 }
+    ensures { MatchOption result (¬ Number word.now) (λ n. Number word.now × (n ≡ digits_value 10 word.now)) }
+{
+    let mut n = 0;
+    for b in word {
+        let digit @ b'0'..=b'9' = *b else { return None };
+        n = n * 10 + u64::from(digit - b'0');
+    }
+    Some(n)
 }
 
 impl Reader<'_> {
