@@ -20,7 +20,6 @@ const OUT: u8 = 0;
 const SEEN: u8 = 2;
 
 // The links of `v` into the set.
-#[tactic(auto, using(crate::proofs::Leaving::into_walk))]
 fn links_into<B: Board>(board: &B, bytes: &[u8], v: usize) -> u32
     requires { (B.Board.shape board.now).sites ≤ length bytes.now }
     ensures { result ≡ links_into (B.Board.shape board.now) (marked bytes.now) v }
