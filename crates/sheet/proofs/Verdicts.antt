@@ -98,3 +98,12 @@ pub come_end : {s : List ℕ} {done : List Line} (r q : Lines) → Come s r.read
 come_end {s} {done} r q come goes next =
     let end = next goes in
     subst (λ ys. AllFine None (lines s) ys) (append-nil done) (come.good [] (subst (λ ls. AllFine r.last ls []) (sym end.0) end.1))
+
+-- what was taken by hand, and the end
+pub said_some : {r q : Reader} {p : Option Kind} {o : Option Line} {x : Line} → o ≡ Some x → NextSaid r q p (Ok o) → LineSaid r q p x
+said_some {r} {q} {p} e h = subst (λ (o : Option Line). NextSaid r q p (Ok o)) e h
+
+pub come_last : {s : List ℕ} {r : Reader} {p : Option Kind} {done : List Line} (q : Reader) {o : Option Line} → Come s r p done → o ≡ None → NextSaid r q p (Ok o) → AllFine None (lines s) done
+come_last {s} {r} {p} {done} q come e h =
+    let end = subst (λ (o : Option Line). NextSaid r q p (Ok o)) e h in
+    subst (λ ys. AllFine None (lines s) ys) (append-nil done) (come.good [] (subst (λ ls. AllFine p ls []) (sym end.0) end.1))

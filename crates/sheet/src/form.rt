@@ -80,10 +80,11 @@ impl Iterator for Lines<'_> {
 pub fn check_form(sheet: &[u8]) -> Result<usize, LineRefusal>
     ensures { Checked sheet.now result }
 {
+    let mut walk = Lines::of(sheet)?;
     let mut count = 0;
-    // counted in a `for`, since it ends with the first refusal
-    for line in Lines::of(sheet)? {
-        line?;
+    // line by line: through the iterator, sheets of short lines took a fifth longer
+    while let Some(line) = walk.next_said()? {
+        walk.last = Some(Kind::from(line));
         count += 1;
     }
     Ok(count)
